@@ -1,0 +1,12 @@
+pub mod Nearness
+pub mod Rounding
+pub mod Sums
+pub mod Losses
+pub mod Machine
+pub mod Signs
+pub mod Meant
+pub mod Division
+pub mod Long
+pub mod Jumps
+pub mod Hedges
+mod Trials

@@ -1,0 +1,90 @@
+-- Laws of losses and outstanding nominal. Assumes nothing.
+use Prim.Native.Nat.{ℕ, zero, suc, _+_, _-_, _*_, _/_, _≤_, _<_, min}
+use mathlib.Core.Path.{_≡_, refl, _∙_, ap, ap₂}
+use native.Mathlib.Nat.{le-refl, le-step, le-of-lt, le-trans, mul-le-mul-left, mul-le-mul-right, div-le-of-le-mul, zero-mul, zero-div, sub-le, mul-div-cancel-left, le-div-iff-mul-le, div-mul-le-self}
+use native.Mathlib.Omega.{arith}
+use Rattle.cash.specs.Units.{B}
+use Rattle.cash.specs.Sums.{sumTo, Rising}
+use Rattle.cash.specs.Losses.{poolLoss, trancheLoss, trancheOutstanding, indexOutstanding, premiumPayment}
+use Rattle.cash.proofs.Rounding.{half-most}
+use Rattle.cash.proofs.Sums.{rises, widths-add, sum-sub}
+
+-- ---- the pool
+
+-- a share of more is more
+share-rises : (d x y : ℕ) → 0 < d → x ≤ y → x / d ≤ y / d
+share-rises d x y p h = le-div-iff-mul-le p .1 (le-trans (div-mul-le-self x d) h)
+
+pub pool-loss-rises : (names recovery k : ℕ) → 0 < names → poolLoss names recovery k ≤ poolLoss names recovery (suc k)
+unfolding poolLoss
+pool-loss-rises names recovery k p = share-rises names _ _ p (omega arith)
+
+pub pool-loss-most : (names recovery k : ℕ) → k ≤ names → poolLoss names recovery k ≤ B - recovery
+unfolding poolLoss
+pool-loss-most names recovery k l = div-le-of-le-mul names (mul-le-mul-right (B - recovery) l)
+
+pub pool-loss-none : (names recovery : ℕ) → poolLoss names recovery 0 ≡ 0
+unfolding poolLoss
+pool-loss-none names recovery = ap (λ y. y / names) (zero-mul (B - recovery)) ∙ zero-div names
+
+-- L(n) = B - R
+pub pool-loss-all : (names recovery : ℕ) → 0 < names → poolLoss names recovery names ≡ B - recovery
+unfolding poolLoss
+pool-loss-all names recovery p = mul-div-cancel-left (B - recovery) p
+
+-- ---- a tranche
+
+pub tranche-loss-rises : (lower upper x y : ℕ) → x ≤ y → trancheLoss lower upper x ≤ trancheLoss lower upper y
+unfolding trancheLoss
+tranche-loss-rises lower upper x y h = omega arith
+
+pub tranche-loss-most : (lower upper x : ℕ) → trancheLoss lower upper x ≤ upper - lower
+unfolding trancheLoss
+tranche-loss-most lower upper x = omega arith
+
+pub tranche-loss-none : (lower upper : ℕ) → trancheLoss lower upper 0 ≡ 0
+unfolding trancheLoss
+tranche-loss-none lower upper = omega arith
+
+-- the loss below the upper point is the tranche's and the loss below the lower one
+loss-between : (lower upper x : ℕ) → lower ≤ upper → trancheLoss lower upper x + min x lower ≡ min x upper
+unfolding trancheLoss
+loss-between lower upper x h = omega arith
+
+-- tranches side by side lose what the tranche spanning them loses
+pub losses-add : (r : ℕ) (c : ℕ → ℕ) → Rising r c → (x : ℕ) → sumTo r (λ j. trancheLoss (c j) (c (suc j)) x) ≡ trancheLoss (c 0) (c r) x
+unfolding sumTo
+losses-add zero c h x = omega (arith, loss-between (c 0) (c 0) x (le-refl _))
+losses-add (suc r) c h x =
+    omega (arith, losses-add r c (λ j l. h j (le-step l)) x, loss-between (c 0) (c r) x (rises r c (λ j l. h j (le-step l))), loss-between (c r) (c (suc r)) x (le-of-lt (h r (le-refl (suc r)))), loss-between (c 0) (c (suc r)) x (rises (suc r) c h))
+
+pub outstanding-falls : (lower upper x y : ℕ) → x ≤ y → trancheOutstanding lower upper y ≤ trancheOutstanding lower upper x
+unfolding trancheOutstanding
+outstanding-falls lower upper x y h = omega (arith, tranche-loss-rises lower upper x y h)
+
+pub outstanding-most : (lower upper x : ℕ) → upper ≤ B → trancheOutstanding lower upper x ≤ B
+unfolding trancheOutstanding
+outstanding-most lower upper x h = omega arith
+
+-- as much is outstanding of tranches side by side as of the tranche spanning them
+pub outstandings-add : (r : ℕ) (c : ℕ → ℕ) → Rising r c → (x : ℕ) → sumTo r (λ j. trancheOutstanding (c j) (c (suc j)) x) ≡ trancheOutstanding (c 0) (c r) x
+unfolding trancheOutstanding
+outstandings-add r c h x =
+    sum-sub r (λ j. c (suc j) - c j) (λ j. trancheLoss (c j) (c (suc j)) x) (λ j l. tranche-loss-most (c j) (c (suc j)) x)
+    ∙ ap₂ (λ a b. a - b) (widths-add r c h) (losses-add r c h x)
+
+-- ---- the index
+
+pub index-outstanding-falls : (names k : ℕ) → 0 < names → indexOutstanding names (suc k) ≤ indexOutstanding names k
+unfolding indexOutstanding
+index-outstanding-falls names k p = omega (arith, share-rises names (k * B) (suc k * B) p (omega arith))
+
+pub index-outstanding-most : (names k : ℕ) → indexOutstanding names k ≤ B
+unfolding indexOutstanding
+index-outstanding-most names k = sub-le _ _
+
+-- ---- payments
+
+pub premium-payment-most : (accrual outstanding : ℕ) → outstanding ≤ B → premiumPayment accrual outstanding ≤ accrual
+unfolding premiumPayment
+premium-payment-most accrual outstanding h = half-most _ _ (mul-le-mul-left accrual h)

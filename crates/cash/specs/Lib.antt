@@ -1,0 +1,5 @@
+pub mod Units
+pub mod Near
+pub mod Sums
+pub mod Losses
+pub mod Hedges

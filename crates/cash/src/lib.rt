@@ -1,0 +1,171 @@
+// The arithmetic layer: rounding, losses, payments, net values, jumps and the hedge ratio. It knows no walk and no register.
+ghost use mathlib.Core.Path.{_≡_};
+ghost use Prim.Native.Nat.{_≤_, _<_, _*_, _^_};
+ghost use lib.IntN.{natAbs};
+ghost use Rattle.cash.specs.Units.{B};
+ghost use Rattle.cash.specs.Losses.{
+  poolLoss,
+  trancheLoss,
+  trancheOutstanding,
+  indexOutstanding,
+  defaultPayment,
+  premiumPayment,
+};
+ghost use Rattle.cash.specs.Hedges.{
+  netValue,
+  changeOf,
+  jumpOf,
+  Figures,
+  negative,
+  unlike,
+  hedgeOf,
+};
+
+// A billion: the units of one pool.
+pub const UNITS: u64 = 1_000_000_000;
+
+// y billionths to the nearest whole number, a half upwards.
+pub fn half(y: u64) -> u64
+    requires { ⌜ y ≤ 18 * (B * B) ⌝ }
+    ensures { λ r. ⌜ r ≡ Rattle.cash.specs.Units.half y ⌝ }
+{
+    (y + 500_000_000) / UNITS
+}
+
+// L(k), what k defaults take from the pool.
+pub fn pool_loss(names: usize, recovery: u64, count: usize) -> u64
+    requires { ⌜ (0 < names) × (names ≤ 125) × (recovery ≤ B) × (count ≤ names) ⌝ }
+    ensures { λ r. ⌜ r ≡ poolLoss names recovery count ⌝ }
+{
+    (count as u64) * (UNITS - recovery) / (names as u64)
+}
+
+// M, the part of a pool loss that falls between two attachment points.
+pub fn tranche_loss(lower: u64, upper: u64, loss: u64) -> u64
+    requires { ⌜ lower ≤ upper ⌝ }
+    ensures { λ r. ⌜ r ≡ trancheLoss lower upper loss ⌝ }
+{
+    if loss <= lower {
+        return 0;
+    }
+    let above = loss - lower;
+    let width = upper - lower;
+    if above <= width { above } else { width }
+}
+
+// O of a tranche, its width less its loss.
+pub fn tranche_outstanding(lower: u64, upper: u64, loss: u64) -> u64
+    requires { ⌜ lower ≤ upper ⌝ }
+    ensures { λ r. ⌜ r ≡ trancheOutstanding lower upper loss ⌝ }
+{
+    upper - lower - tranche_loss(lower, upper, loss)
+}
+
+// O(k) of the index: a default removes the whole name.
+pub fn index_outstanding(names: usize, count: usize) -> u64
+    requires { ⌜ (0 < names) × (names ≤ 125) × (count ≤ names) ⌝ }
+    ensures { λ r. ⌜ r ≡ indexOutstanding names count ⌝ }
+{
+    UNITS - (count as u64) * UNITS / (names as u64)
+}
+
+// M(k + 1) - M(k), what a default pays.
+pub fn default_payment(before: u64, after: u64) -> u64
+    requires { ⌜ before ≤ after ⌝ }
+    ensures { λ r. ⌜ r ≡ defaultPayment before after ⌝ }
+{
+    after - before
+}
+
+// What a premium date pays on the outstanding nominal.
+pub fn premium_payment(accrual: u64, outstanding: u64) -> u64
+    requires { ⌜ (accrual ≤ B) × (outstanding ≤ B) ⌝ }
+    ensures { λ r. ⌜ r ≡ premiumPayment accrual outstanding ⌝ }
+{
+    half(accrual * outstanding)
+}
+
+// W = 10,000,000 × D - coupon × A.
+pub fn net_value(d: u64, coupon: u64, a: u64) -> i64
+    requires { ⌜ (d ≤ B) × (coupon ≤ 10_000_000) × (a ≤ 18 * B) ⌝ }
+    ensures { λ r. ⌜ r ≡ netValue d coupon a ⌝ }
+{
+    10_000_000 * (d as i64) - (coupon as i64) * (a as i64)
+}
+
+// The figures of a tranche at a node: its loss M, default leg D and premium leg A.
+pub struct Node {
+    pub loss: u64,
+    pub default: u64,
+    pub premium: u64,
+}
+
+// How far a figure goes up, or down.
+pub fn change(before: u64, after: u64) -> i64
+    requires { ⌜ (before ≤ 18 * B) × (after ≤ 18 * B) ⌝ }
+    ensures { λ r. ⌜ r ≡ changeOf before after ⌝ }
+{
+    after as i64 - before as i64
+}
+
+// J, what the net value jumps by a default.
+pub fn jump(coupon: u64, here: Node, next: Node) -> i64
+    requires { ⌜ (coupon ≤ 10_000_000) × Figures here × Figures next ⌝ }
+    ensures { λ r. ⌜ r ≡ jumpOf coupon here next ⌝ }
+{
+    10_000_000 * (change(here.loss, next.loss) + change(here.default, next.default))
+        - (coupon as i64) * change(here.premium, next.premium)
+}
+
+// The size of a signed number.
+pub fn magnitude(x: i64) -> u64
+    requires { ⌜ natAbs x < 2 ^ 63 ⌝ }
+    ensures { λ r. ⌜ r ≡ natAbs x ⌝ }
+{
+    if x < 0 { (0 - x) as u64 } else { x as u64 }
+}
+
+// Whether one of the two is negative and the other is not.
+pub fn unlike_signs(x: i64, y: i64) -> bool
+    ensures { λ r. ⌜ r ≡ unlike (negative x) (negative y) ⌝ }
+{
+    if x < 0 { y >= 0 } else { y < 0 }
+}
+
+// A hedge ratio, or why there is none.
+pub enum Hedge {
+    Millionths(i64),
+    // 15, flat hedge: the index does not jump
+    Flat,
+    // 16, off scale
+    OffScale,
+}
+
+// The tranche's jump over the index's in millionths, a half away from zero: a long division, since the jump × 10^6 does not fit 64 bits.
+pub fn hedge_ratio(tranche: i64, index: i64) -> Hedge
+    requires { ⌜ (natAbs tranche ≤ 200_000_000_000_000_000) × (natAbs index ≤ 200_000_000_000_000_000) ⌝ }
+    ensures { λ r. ⌜ r ≡ hedgeOf tranche index ⌝ }
+{
+    if index == 0 {
+        return Hedge::Flat;
+    }
+    let mut quotient = tranche / index;
+    let mut rest = tranche % index;
+    if magnitude(quotient) >= 1_000_000 {
+        return Hedge::OffScale;
+    }
+    let mut digits: u8 = 0;
+    while digits < 6 {
+        quotient = quotient * 10 + rest * 10 / index;
+        rest = rest * 10 % index;
+        digits += 1;
+    }
+    if magnitude(rest) * 2 < magnitude(index) {
+        return Hedge::Millionths(quotient);
+    }
+    if unlike_signs(tranche, index) {
+        Hedge::Millionths(quotient - 1)
+    } else {
+        Hedge::Millionths(quotient + 1)
+    }
+}

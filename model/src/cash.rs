@@ -1,0 +1,72 @@
+//! Rounding, losses and payments (document 01, "Arithmetic and cash").
+//!
+//! Nothing here knows about rows or about the direction of a walk. Every
+//! function takes a sheet that passed its checks.
+
+use crate::sheet::{Sheet, B};
+
+/// Divides by B; a half goes up.
+pub fn half(y: u128) -> u128 {
+    (y + B / 2) / B
+}
+
+/// L(k): what the pool has lost after `count` defaults.
+pub fn pool_loss(sheet: &Sheet, count: usize) -> u128 {
+    let loss_given_default = B - u128::from(sheet.recovery);
+    count as u128 * loss_given_default / sheet.names as u128
+}
+
+/// The most a tranche can lose. For the index, the loss of the whole pool.
+pub fn width(sheet: &Sheet, tranche: usize) -> u128 {
+    if tranche == sheet.index() {
+        B - u128::from(sheet.recovery)
+    } else {
+        detachment(sheet, tranche) - attachment(sheet, tranche)
+    }
+}
+
+/// M(k): "slice loss" in document 01.
+pub fn tranche_loss(sheet: &Sheet, tranche: usize, count: usize) -> u128 {
+    let loss = pool_loss(sheet, count);
+    if tranche == sheet.index() {
+        loss
+    } else {
+        let above_attachment = loss.saturating_sub(attachment(sheet, tranche));
+        above_attachment.min(width(sheet, tranche))
+    }
+}
+
+/// O(k): the notional that still earns premium.
+pub fn outstanding(sheet: &Sheet, tranche: usize, count: usize) -> u128 {
+    if tranche == sheet.index() {
+        // A default takes the whole name out of the index, its recovered
+        // part too, so this is not the notional less the loss.
+        B - count as u128 * B / sheet.names as u128
+    } else {
+        width(sheet, tranche) - tranche_loss(sheet, tranche, count)
+    }
+}
+
+/// Default cash: paid by the step that takes `count` to `count + 1`.
+pub fn default_payment(sheet: &Sheet, tranche: usize, count: usize) -> u128 {
+    tranche_loss(sheet, tranche, count + 1) - tranche_loss(sheet, tranche, count)
+}
+
+/// P(i, k) in whole units, as the rows take it; `count` is the one after
+/// the step.
+pub fn premium_payment(sheet: &Sheet, tranche: usize, step: usize, count: usize) -> u128 {
+    half(premium_payment_over_b(sheet, tranche, step, count))
+}
+
+/// P(i, k) unrounded: the numerator over B.
+pub fn premium_payment_over_b(sheet: &Sheet, tranche: usize, step: usize, count: usize) -> u128 {
+    sheet.accrual(step) * outstanding(sheet, tranche, count)
+}
+
+fn attachment(sheet: &Sheet, tranche: usize) -> u128 {
+    u128::from(sheet.attachments[tranche])
+}
+
+fn detachment(sheet: &Sheet, tranche: usize) -> u128 {
+    u128::from(sheet.attachments[tranche + 1])
+}

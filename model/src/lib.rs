@@ -1,0 +1,23 @@
+//! Reference model of the tranche valuation engine.
+//!
+//! Written from document 01 alone, so that it can bear witness about the
+//! engine. It prefers wide integers and fresh vectors to speed.
+//!
+//! - [`refusal`]: the reasons a call can be turned down
+//! - [`sheet`]: what the desk brings, and the checks on it
+//! - [`cash`]: rounding, losses, outstanding notional, payments
+//! - [`tree`]: rolling rows back, net values, hedge ratios, default counts
+//! - [`natural`]: whole numbers of any size
+//! - [`exact`]: unrounded values by brute force over lists of moves
+//! - [`worked`]: the small sheet whose figures document 01 prints
+//!
+//! Words: a tranche is a "slice" of document 01, and attachment points are
+//! its "cuts". Tranche number r stands for the index throughout.
+
+pub mod cash;
+pub mod exact;
+pub mod natural;
+pub mod refusal;
+pub mod sheet;
+pub mod tree;
+pub mod worked;

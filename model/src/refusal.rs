@@ -1,0 +1,58 @@
+//! The refusals and their numbers (document 01, "Refusals in order").
+
+/// Variants keep document 01's own words, so that tables can be compared.
+#[derive(Clone, Copy, Debug, PartialEq, Eq)]
+pub enum Refusal {
+    Pool = 1,
+    Length = 2,
+    Recovery = 3,
+    /// About attachment points.
+    Cuts = 4,
+    Hazard = 5,
+    Discount = 6,
+    Accrual = 7,
+    Coupon = 8,
+    Withdrawn = 9,
+    Unissued = 10,
+    NoWalk = 11,
+    Soiled = 12,
+    OutOfSteps = 13,
+    OffTree = 14,
+    FlatHedge = 15,
+    OffScale = 16,
+    Live = 17,
+    Unknown = 18,
+    CutShort = 19,
+    TooMany = 20,
+}
+
+impl Refusal {
+    pub fn number(self) -> u8 {
+        self as u8
+    }
+
+    pub fn word(self) -> &'static str {
+        match self {
+            Refusal::Pool => "pool",
+            Refusal::Length => "length",
+            Refusal::Recovery => "recovery",
+            Refusal::Cuts => "cuts",
+            Refusal::Hazard => "hazard",
+            Refusal::Discount => "discount",
+            Refusal::Accrual => "accrual",
+            Refusal::Coupon => "coupon",
+            Refusal::Withdrawn => "withdrawn",
+            Refusal::Unissued => "unissued",
+            Refusal::NoWalk => "no walk",
+            Refusal::Soiled => "soiled",
+            Refusal::OutOfSteps => "out of steps",
+            Refusal::OffTree => "off tree",
+            Refusal::FlatHedge => "flat hedge",
+            Refusal::OffScale => "off scale",
+            Refusal::Live => "live",
+            Refusal::Unknown => "unknown",
+            Refusal::CutShort => "cut short",
+            Refusal::TooMany => "too many",
+        }
+    }
+}

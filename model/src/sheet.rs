@@ -1,0 +1,153 @@
+//! The sheet and its checks (document 01, "Sheet and units").
+
+use crate::refusal::Refusal;
+
+/// Units in the whole pool; also the "one" of every chance and discount.
+pub const B: u128 = 1_000_000_000;
+
+pub const MAX_NAMES: usize = 125;
+pub const MAX_STEPS: usize = 3_650;
+pub const MAX_TRANCHES: usize = 8;
+
+/// Ten years, in billionths of a year.
+pub const MAX_ACCRUAL_SUM: u128 = 10 * B;
+
+/// 10,000 basis points, in thousandths of a basis point.
+pub const MAX_COUPON: u128 = 10_000_000;
+
+/// What a supplier sends. The fields are not trusted until [`check`] passes.
+#[derive(Clone, Debug, PartialEq, Eq)]
+pub struct Sheet {
+    /// The sheet number; it plays no part in any figure.
+    pub number: u8,
+    /// n of document 01.
+    pub names: usize,
+    /// m of document 01.
+    pub steps: usize,
+    /// r of document 01: the number of "slices", the index not counted.
+    pub tranches: usize,
+    /// R of document 01.
+    pub recovery: u64,
+    /// The r + 1 attachment points, "cuts" in document 01. Tranche j lies
+    /// between points j and j + 1.
+    pub attachments: Vec<u64>,
+    /// p(0) to p(n - 1).
+    pub hazards: Vec<u64>,
+    /// v(1) to v(m), so v(i) is at place i - 1.
+    pub discounts: Vec<u64>,
+    /// a(1) to a(m), so a(i) is at place i - 1.
+    pub accruals: Vec<u64>,
+    /// One for each tranche, then the one of the index.
+    pub coupons: Vec<u64>,
+}
+
+impl Sheet {
+    /// The tranche number that stands for the index.
+    pub fn index(&self) -> usize {
+        self.tranches
+    }
+
+    /// p(k). Nobody is left to default at count n, so p(n) is 0.
+    pub fn hazard(&self, count: usize) -> u128 {
+        if count == self.names {
+            0
+        } else {
+            u128::from(self.hazards[count])
+        }
+    }
+
+    /// B - p(k): the chance that a step leaves the count alone.
+    pub fn survival(&self, count: usize) -> u128 {
+        B - self.hazard(count)
+    }
+
+    /// v(i), for i from 1 to m.
+    pub fn discount(&self, step: usize) -> u128 {
+        u128::from(self.discounts[step - 1])
+    }
+
+    /// a(i), for i from 1 to m.
+    pub fn accrual(&self, step: usize) -> u128 {
+        u128::from(self.accruals[step - 1])
+    }
+
+    /// A step pays premium just when its accrual is not zero.
+    pub fn is_premium_date(&self, step: usize) -> bool {
+        self.accrual(step) != 0
+    }
+
+    pub fn coupon(&self, tranche: usize) -> u128 {
+        u128::from(self.coupons[tranche])
+    }
+}
+
+/// Checks 1 to 8, in the order of document 01; the first fault is named.
+pub fn check(sheet: &Sheet) -> Result<(), Refusal> {
+    refuse_if(pool_fault(sheet), Refusal::Pool)?;
+    refuse_if(length_fault(sheet), Refusal::Length)?;
+    refuse_if(above(sheet.recovery, B), Refusal::Recovery)?;
+    refuse_if(attachment_fault(sheet), Refusal::Cuts)?;
+    refuse_if(hazard_fault(sheet), Refusal::Hazard)?;
+    refuse_if(discount_fault(sheet), Refusal::Discount)?;
+    refuse_if(accrual_fault(sheet), Refusal::Accrual)?;
+    refuse_if(coupon_fault(sheet), Refusal::Coupon)
+}
+
+fn refuse_if(fault: bool, refusal: Refusal) -> Result<(), Refusal> {
+    if fault {
+        Err(refusal)
+    } else {
+        Ok(())
+    }
+}
+
+fn above(number: u64, limit: u128) -> bool {
+    u128::from(number) > limit
+}
+
+fn pool_fault(sheet: &Sheet) -> bool {
+    !(1..=MAX_NAMES).contains(&sheet.names)
+        || !(1..=MAX_STEPS).contains(&sheet.steps)
+        || !(1..=MAX_TRANCHES).contains(&sheet.tranches)
+}
+
+// From here on each fault may rely on the checks before its own: the lists
+// have their lengths, and none is empty.
+
+fn length_fault(sheet: &Sheet) -> bool {
+    sheet.attachments.len() != sheet.tranches + 1
+        || sheet.hazards.len() != sheet.names
+        || sheet.discounts.len() != sheet.steps
+        || sheet.accruals.len() != sheet.steps
+        || sheet.coupons.len() != sheet.tranches + 1
+}
+
+fn attachment_fault(sheet: &Sheet) -> bool {
+    let rising = sheet.attachments.windows(2).all(|pair| pair[0] < pair[1]);
+    let too_high = sheet.attachments.iter().any(|&point| above(point, B));
+    !rising || too_high
+}
+
+fn hazard_fault(sheet: &Sheet) -> bool {
+    sheet.hazards.iter().any(|&hazard| above(hazard, B))
+}
+
+fn discount_fault(sheet: &Sheet) -> bool {
+    let fault = |discount: u64| discount == 0 || above(discount, B);
+    sheet.discounts.iter().any(|&discount| fault(discount))
+}
+
+fn accrual_fault(sheet: &Sheet) -> bool {
+    let too_high = sheet.accruals.iter().any(|&accrual| above(accrual, B));
+    // In u128, because unchecked accruals may be as large as a u64 can be.
+    let sum: u128 = sheet.accruals.iter().map(|&a| u128::from(a)).sum();
+    let last_is_zero = sheet.accruals.last() == Some(&0);
+    too_high || sum > MAX_ACCRUAL_SUM || last_is_zero
+}
+
+fn coupon_fault(sheet: &Sheet) -> bool {
+    sheet
+        .coupons
+        .iter()
+        .any(|&coupon| above(coupon, MAX_COUPON))
+}

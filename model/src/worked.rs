@@ -1,0 +1,18 @@
+//! The small sheet whose figures document 01 prints with its deck.
+
+use crate::sheet::Sheet;
+
+pub fn sheet() -> Sheet {
+    Sheet {
+        number: 7,
+        names: 2,
+        steps: 2,
+        tranches: 1,
+        recovery: 400_000_000,
+        attachments: vec![0, 300_000_000],
+        hazards: vec![100_000_000, 200_000_000],
+        discounts: vec![1_000_000_000, 900_000_000],
+        accruals: vec![0, 1_000_000_000],
+        coupons: vec![1_000_000, 500_000],
+    }
+}

@@ -1,0 +1,95 @@
+//! Rounding, losses and payments: the trial entries of document 01 that
+//! need no call, and the edges beside them.
+
+mod common;
+
+use common::{plain_sheet, B};
+use lavroudem_model::cash::{
+    default_payment, half, outstanding, pool_loss, premium_payment, premium_payment_over_b,
+    tranche_loss, width,
+};
+use lavroudem_model::sheet::check;
+
+#[test]
+fn half_edges() {
+    assert_eq!(half(0), 0);
+    assert_eq!(half(499_999_999), 0);
+    assert_eq!(half(500_000_000), 1);
+    assert_eq!(half(1_499_999_999), 1);
+    assert_eq!(half(1_500_000_000), 2);
+    // The largest argument a walk can bring: v at B, ten years of accrual.
+    assert_eq!(half(10_000_000_000_000_000_000), 10_000_000_000);
+}
+
+/// Document 002, tables 2.2 and 2.3, as document 01 quotes them.
+#[test]
+fn losses_of_the_two_lowest_tranches() {
+    let sheet = plain_sheet(125, 1, 2);
+    assert_eq!(check(&sheet), Ok(()));
+    assert_eq!(sheet.attachments, [0, 30_000_000, 60_000_000]);
+    for (tranche, count, left) in [
+        (0, 6, 1_200_000),
+        (0, 7, 0),
+        (1, 6, 30_000_000),
+        (1, 7, 26_400_000),
+        (1, 12, 2_400_000),
+        (1, 13, 0),
+    ] {
+        assert_eq!(outstanding(&sheet, tranche, count), left);
+        assert_eq!(tranche_loss(&sheet, tranche, count), 30_000_000 - left);
+    }
+    assert_eq!(pool_loss(&sheet, 6), 28_800_000);
+    assert_eq!(pool_loss(&sheet, 7), 33_600_000);
+    assert_eq!(pool_loss(&sheet, 12), 57_600_000);
+    assert_eq!(pool_loss(&sheet, 13), 62_400_000);
+    // The seventh default eats through the boundary of the two.
+    assert_eq!(default_payment(&sheet, 0, 6), 1_200_000);
+    assert_eq!(default_payment(&sheet, 1, 6), 3_600_000);
+}
+
+#[test]
+fn losses_are_rounded_down() {
+    let mut sheet = plain_sheet(3, 1, 1);
+    sheet.recovery = 1;
+    // 999999999 / 3 is whole, 1000000000 / 3 is not.
+    assert_eq!(pool_loss(&sheet, 1), 333_333_333);
+    assert_eq!(pool_loss(&sheet, 2), 666_666_666);
+    assert_eq!(pool_loss(&sheet, 3), 999_999_999);
+    sheet.recovery = 0;
+    assert_eq!(pool_loss(&sheet, 1), 333_333_333);
+    assert_eq!(pool_loss(&sheet, 2), 666_666_666);
+    assert_eq!(pool_loss(&sheet, 3), 1_000_000_000);
+    // So the defaults pay unlike amounts, and the index leaves unlike ones.
+    let index = sheet.index();
+    assert_eq!(default_payment(&sheet, index, 1), 333_333_333);
+    assert_eq!(default_payment(&sheet, index, 2), 333_333_334);
+    assert_eq!(outstanding(&sheet, index, 2), 333_333_334);
+    assert_eq!(outstanding(&sheet, index, 3), 0);
+}
+
+#[test]
+fn index_loses_the_pool_loss() {
+    let sheet = plain_sheet(125, 1, 2);
+    let index = sheet.index();
+    assert_eq!(width(&sheet, index), 600_000_000);
+    for count in 0..=125 {
+        assert_eq!(tranche_loss(&sheet, index, count), pool_loss(&sheet, count));
+    }
+    assert_eq!(tranche_loss(&sheet, index, 125), width(&sheet, index));
+    assert_eq!(outstanding(&sheet, index, 1), 992_000_000);
+    assert_eq!(outstanding(&sheet, index, 125), 0);
+}
+
+#[test]
+fn premium_is_accrual_times_outstanding() {
+    let mut sheet = plain_sheet(2, 2, 1);
+    sheet.attachments = vec![0, B];
+    sheet.accruals = vec![0, 1];
+    // O(0) is B, O(1) is 700000000 and O(2) is 400000000.
+    assert_eq!(premium_payment_over_b(&sheet, 0, 2, 1), 700_000_000);
+    assert_eq!(premium_payment(&sheet, 0, 2, 0), 1);
+    assert_eq!(premium_payment(&sheet, 0, 2, 1), 1);
+    assert_eq!(premium_payment(&sheet, 0, 2, 2), 0);
+    // Not a premium date.
+    assert_eq!(premium_payment(&sheet, 0, 1, 0), 0);
+}
