@@ -1,0 +1,23 @@
+-- What a withdraw that was accepted promises of the register that it leaves. Assumes nothing.
+use mathlib.Core.Path.{_≡_, sym, _∙_, ap, subst}
+use mathlib.Core.Bool.{Bool, true, false, _&&_}
+use mathlib.Core.List.{List}
+use Prim.Native.Nat.{ℕ}
+use borrow.Author.Tests.{eq-eqb}
+use mathlib.Core.Path.{refl}
+use lib.Dec.{eqb}
+use Rattle.register.specs.declared.answers.Answer.{Answer}
+use Rattle.register.specs.Register.{numberOf, withdraw, answerOf, isAccepted, leavesOf}
+use Rattle.register.specs.Events.{returned, after, Lasts}
+use Rattle.register.proofs.Rules.{left, Meets}
+use Rattle.register.proofs.Cuts.{accepts}
+use Rattle.register.proofs.Forever.{Zero, starts, keeps-all, gone}
+
+accepted : (register : List ℕ) (x : ℕ) → isAccepted (answerOf withdraw register x) ≡ true → Zero (leavesOf withdraw register x) x
+accepted register x t =
+    starts register (accepts withdraw register x t .0) (returned withdraw x) x
+    (ap (λ (b : Bool). b && isAccepted (answerOf withdraw register x)) (eq-eqb x x refl) ∙ t)
+
+pub lasts : (register : List ℕ) (x : ℕ) {a : Answer} → Meets withdraw register x a → numberOf a ≡ 0 → Lasts (left withdraw register x a) x
+lasts register x {a} m e es h =
+    gone (keeps-all (subst (λ (l : List ℕ). Zero l x) (sym (m .1 .0)) (accepted register x (eq-eqb _ 0 (ap numberOf (sym (m .0)) ∙ e)))) es h)

@@ -1,0 +1,4 @@
+pub mod Register
+pub mod Rules
+pub mod Cut
+pub mod Events

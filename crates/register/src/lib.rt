@@ -1,0 +1,101 @@
+// The register of sheet numbers: 256 lent bytes, one a number. FF is unissued, A5 live, all else withdrawn.
+pub mod answers;
+
+pub use answers::Answer;
+pub use answers::Status;
+ghost use mathlib.Core.Path.{_≡_};
+ghost use Rattle.register.specs.Register.{
+  statusOf,
+  statusIn,
+  numberOf,
+  issueAnswer,
+  issueLeaves,
+  withdrawAnswer,
+  withdrawLeaves,
+};
+ghost use Rattle.register.specs.Rules.{Issues, Withdraws};
+ghost use Rattle.register.specs.Cut.{mayBeLeft};
+ghost use Rattle.register.specs.Events.{Lasts};
+
+// The register's length; the byte of an unissued and of a live number; the byte that withdraw writes.
+pub const SIZE: usize = 256;
+
+pub const UNISSUED: u8 = 0xFF;
+
+pub const LIVE: u8 = 0xA5;
+
+pub const CLEARED: u8 = 0x00;
+
+// What a register byte says.
+fn status_of(byte: u8) -> Status
+    ensures { λ r. ⌜ r ≡ statusOf byte ⌝ }
+{
+    if byte == UNISSUED {
+        return Status::Unissued;
+    }
+    if byte != LIVE {
+        return Status::Withdrawn;
+    }
+    Status::Live
+}
+
+// What the register says of a number: the one place that reads it.
+// A number past the end of a short register reads as withdrawn, so that none is taken for live.
+pub fn status(register: &[u8], number: u8) -> Status
+    ensures { λ r. ⌜ r ≡ statusIn (now (register .entry)) number ⌝ }
+{
+    let at = number as usize;
+    if at < register.len() {
+        status_of(register[at])
+    } else {
+        Status::Withdrawn
+    }
+}
+
+// Writes A5 over FF.
+pub fn issue(register: &mut [u8], number: u8) -> Answer
+    ensures answer { λ r. ⌜ r ≡ issueAnswer (now (register .entry)) number ⌝ }
+    ensures leaves { λ r. ⌜ now (register .exit) ≡ issueLeaves (now (register .entry)) number ⌝ }
+    ensures rule { λ r. ⌜ Issues (now (register .entry)) number (numberOf r) (now (register .exit)) ⌝ }
+{
+    if register.len() != SIZE {
+        return Answer::Length;
+    }
+    let found = status(register, number);
+    match found {
+        Status::Withdrawn => Answer::Withdrawn,
+        Status::Live => Answer::Live,
+        Status::Unissued => {
+            register[number as usize] = LIVE;
+            Answer::Accepted
+        }
+    }
+}
+
+// Writes 00 over A5.
+pub fn withdraw(register: &mut [u8], number: u8) -> Answer
+    ensures answer { λ r. ⌜ r ≡ withdrawAnswer (now (register .entry)) number ⌝ }
+    ensures leaves { λ r. ⌜ now (register .exit) ≡ withdrawLeaves (now (register .entry)) number ⌝ }
+    ensures rule { λ r. ⌜ Withdraws (now (register .entry)) number (numberOf r) (now (register .exit)) ⌝ }
+    ensures lasts { λ r. ⌜ (numberOf r ≡ 0 → Lasts (now (register .exit)) number) ⌝ }
+{
+    if register.len() != SIZE {
+        return Answer::Length;
+    }
+    let found = status(register, number);
+    match found {
+        Status::Withdrawn => Answer::Withdrawn,
+        Status::Unissued => Answer::Unissued,
+        Status::Live => {
+            register[number as usize] = CLEARED;
+            Answer::Accepted
+        }
+    }
+}
+
+// Whether a write of `new` over `old` that power cuts may leave `found`: no bit is set, and none that `new` has is cleared.
+pub fn may_be_left(old: u8, new: u8, found: u8) -> bool
+    ensures { λ r. ⌜ r ≡ mayBeLeft old new found ⌝ }
+{
+    (found | old) == old && (found & new) == (old & new)
+}

@@ -1,0 +1,11 @@
+pub mod PathSums
+pub mod Rolling
+pub mod Distances
+pub mod Additions
+pub mod Legs
+pub mod Ceilings
+pub mod Jumps
+pub mod Forward
+pub mod Sheets
+pub mod Statements
+pub mod Trials

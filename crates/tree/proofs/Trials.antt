@@ -1,0 +1,66 @@
+-- The trial entries, by computation. Assumes nothing.
+use mathlib.Core.Path.{refl}
+use Rattle.cash.specs.Units.{B, half}
+use Rattle.cash.specs.Losses.{poolLoss, trancheLoss, trancheOutstanding, indexOutstanding, defaultPayment, premiumPayment}
+use Rattle.tree.specs.Paths.{allMoves, keeps, those, paths, weight, paid, total, pathSum, exact}
+use Rattle.tree.specs.Backward.{rollNode, backFrom, back, legValue, legExact}
+use Rattle.tree.specs.Legs.{defaultCash, premiumCash, premiumExact}
+use Rattle.tree.specs.Sheet.{hazardOf, discountOf, accrualOf, poolLossOf, lossOf, outstandingOf, treeOf, defaultOf, premiumOf, D, A, exactD, exactA}
+use Rattle.tree.specs.Forward.{same, moved, fromBelow, pushed, distribution, lands, probability}
+use Rattle.tree.specs.Trials.{Starred, Exactly, Roundings}
+
+pub starred : Starred
+unfolding B half poolLoss trancheLoss trancheOutstanding indexOutstanding defaultPayment premiumPayment rollNode backFrom back legValue defaultCash premiumCash hazardOf discountOf accrualOf poolLossOf lossOf outstandingOf treeOf defaultOf premiumOf D A same moved fromBelow pushed distribution
+starred =
+    record {
+      first-at-6 = refl;
+      first-at-7 = refl;
+      second-at-6 = refl;
+      second-at-7 = refl;
+      second-at-12 = refl;
+      second-at-13 = refl;
+      half-down-to-0 = refl;
+      half-up-to-1 = refl;
+      half-down-to-1 = refl;
+      half-up-to-2 = refl;
+      tranche-default = refl;
+      tranche-premium = refl;
+      index-default = refl;
+      index-premium = refl;
+      row-at-0 = refl;
+      row-at-1 = refl;
+      row-at-2 = refl;
+    }
+
+pub exactly : Exactly
+unfolding B poolLoss trancheLoss trancheOutstanding indexOutstanding defaultPayment allMoves keeps those paths weight paid total pathSum exact legExact defaultCash premiumExact hazardOf discountOf accrualOf poolLossOf lossOf outstandingOf treeOf defaultOf premiumOf exactD exactA same lands probability
+exactly =
+    record {
+      tranche-default = refl;
+      tranche-premium = refl;
+      index-default = refl;
+      index-premium = refl;
+      chance-of-0 = refl;
+      chance-of-1 = refl;
+      chance-of-2 = refl;
+      uneven-default = refl;
+      uneven-premium = refl;
+    }
+
+pub roundings : Roundings
+unfolding B half poolLoss trancheLoss trancheOutstanding indexOutstanding defaultPayment premiumPayment rollNode backFrom back legValue defaultCash premiumCash hazardOf discountOf accrualOf poolLossOf lossOf outstandingOf treeOf defaultOf premiumOf D A same moved fromBelow pushed distribution
+roundings =
+    record {
+      loss-at-1 = refl;
+      loss-at-2 = refl;
+      index-at-1 = refl;
+      index-at-2 = refl;
+      premium-after-1 = refl;
+      premium-after-2 = refl;
+      default-after-1 = refl;
+      default-after-2 = refl;
+      index-premium = refl;
+      row-at-0 = refl;
+      row-at-1 = refl;
+      row-at-2 = refl;
+    }

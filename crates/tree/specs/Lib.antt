@@ -1,0 +1,7 @@
+pub mod Paths
+pub mod Backward
+pub mod Legs
+pub mod Sheet
+pub mod Forward
+pub mod Statements
+pub mod Trials

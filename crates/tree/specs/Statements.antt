@@ -1,0 +1,44 @@
+-- What the laws of the tree say of every sheet within limits. Proofs stand in proofs/.
+use Prim.Native.Nat.{ℕ, suc, _+_, _*_, _^_, _≤_, _<_}
+use mathlib.Core.Path.{_≡_}
+use Rattle.cash.specs.Units.{B}
+use Rattle.cash.specs.Near.{Near}
+use Rattle.cash.specs.Sums.{sumTo}
+use Rattle.cash.specs.Losses.{defaultPayment}
+use Rattle.tree.specs.Paths.{Tree, pathSum}
+use Rattle.tree.specs.Sheet.{Sheet, treeOf, lossOf, D, A, exactD, exactA, dates, defaultMost, premiumMost, spanning}
+use Rattle.tree.specs.Forward.{distribution, errors}
+
+-- The chances of all lists of h moves from a count add to certainty.
+abbrev pub Certain : Tree → Type 0
+Certain t = (h i k : ℕ) → k ≤ t .names → pathSum t (λ ms. 1) h i k ≡ B ^ h
+
+-- D within h units of its exact value, and A within h + q / 2 (doubled, so that it is whole).
+pub record Distance (x : Sheet) : Type 0 where
+  pub default : (j h i k : ℕ) → k ≤ x .names → Near (h * B ^ (2 * h + 1)) (D x j h i k * B ^ (2 * h + 1)) (exactD x j h i k)
+  pub premium : (j h i k : ℕ) → k ≤ x .names →
+      Near ((2 * h + dates x h i) * B ^ (2 * h + 1)) (2 * (A x j h i k * B ^ (2 * h + 1))) (2 * exactA x j h i k)
+
+-- The tranches add to the one that spans them: exactly in their exact values, and within r + 1 times the distance by the rounded rule.
+pub record Additive (x : Sheet) : Type 0 where
+  pub default-exact : (h i k : ℕ) → sumTo (x .tranches) (λ j. exactD x j h i k) ≡ exactD (spanning x) 0 h i k
+  pub premium-exact : (h i k : ℕ) → sumTo (x .tranches) (λ j. exactA x j h i k) ≡ exactA (spanning x) 0 h i k
+  pub default : (h i k : ℕ) → k ≤ x .names →
+      Near ((x .tranches + 1) * h) (sumTo (x .tranches) (λ j. D x j h i k)) (D (spanning x) 0 h i k)
+  pub premium : (h i k : ℕ) → k ≤ x .names →
+      Near ((x .tranches + 1) * (2 * h + dates x h i)) (2 * sumTo (x .tranches) (λ j. A x j h i k)) (2 * A (spanning x) 0 h i k)
+
+-- Every node of a walk from the last step keeps to its ceilings.
+pub record Ceilings (x : Sheet) : Type 0 where
+  pub default : (j h i k : ℕ) → i + h ≡ x .steps → k ≤ x .names → D x j h i k ≤ defaultMost x j k
+  pub premium : (j h i k : ℕ) → i + h ≡ x .steps → k ≤ x .names → A x j h i k ≤ premiumMost x i k
+
+-- A default never lowers the default leg by more than it pays, and never raises the premium leg. So no jump on walked rows is negative.
+pub record Jumps (x : Sheet) : Type 0 where
+  pub default : (j h i k : ℕ) → k < x .names → D x j h i k ≤ defaultPayment (lossOf x j k) (lossOf x j (suc k)) + D x j h i (suc k)
+  pub premium : (j h i k : ℕ) → k < x .names → A x j h i (suc k) ≤ A x j h i k
+
+-- The distribution always totals B, and its errors total at most n × i units.
+pub record Spread (x : Sheet) : Type 0 where
+  pub whole : (i : ℕ) → sumTo (suc (x .names)) (distribution (treeOf x) i) ≡ B
+  pub error : (i : ℕ) → errors (treeOf x) i ≤ x .names * i * B ^ i

@@ -1,0 +1,97 @@
+-- Trial entries as facts of the definitions: the starred ones of document 01, and figures beside them. Proved in proofs/Trials.antt.
+use Prim.Native.Nat.{_*_, _^_}
+use mathlib.Core.Path.{_≡_}
+use mathlib.Core.List.{[], _∷_}
+use Rattle.cash.specs.Units.{B, half}
+use Rattle.tree.specs.Sheet.{Sheet, treeOf, poolLossOf, outstandingOf, D, A, exactD, exactA}
+use Rattle.tree.specs.Forward.{distribution, probability}
+
+-- The pool of 125 with two tranches. What is outstanding rests on no hazard, discount or accrual.
+abbrev pub wide : Sheet
+wide =
+    record {
+      names = 125;
+      steps = 0;
+      tranches = 2;
+      recovery = 400_000_000;
+      attachments = 0 ∷ 30_000_000 ∷ 60_000_000 ∷ [];
+      hazards = [];
+      discounts = [];
+      accruals = [];
+    }
+
+-- The deck of document 01.
+abbrev pub worked : Sheet
+worked =
+    record {
+      names = 2;
+      steps = 2;
+      tranches = 1;
+      recovery = 400_000_000;
+      attachments = 0 ∷ 300_000_000 ∷ [];
+      hazards = 100_000_000 ∷ 200_000_000 ∷ [];
+      discounts = 1_000_000_000 ∷ 900_000_000 ∷ [];
+      accruals = 0 ∷ 1_000_000_000 ∷ [];
+    }
+
+-- A pool of three, in which little divides.
+abbrev pub uneven : Sheet
+uneven =
+    record {
+      names = 3;
+      steps = 2;
+      tranches = 1;
+      recovery = 350_000_000;
+      attachments = 0 ∷ 300_000_000 ∷ [];
+      hazards = 123_456_789 ∷ 234_567_891 ∷ 345_678_912 ∷ [];
+      discounts = 987_654_321 ∷ 976_543_210 ∷ [];
+      accruals = 250_000_000 ∷ 253_000_000 ∷ [];
+    }
+
+-- The starred entries. The deck's figures stand at its root; tranche 1 of it is the index.
+pub record Starred : Type 0 where
+  pub first-at-6 : outstandingOf wide 0 6 ≡ 1_200_000
+  pub first-at-7 : outstandingOf wide 0 7 ≡ 0
+  pub second-at-6 : outstandingOf wide 1 6 ≡ 30_000_000
+  pub second-at-7 : outstandingOf wide 1 7 ≡ 26_400_000
+  pub second-at-12 : outstandingOf wide 1 12 ≡ 2_400_000
+  pub second-at-13 : outstandingOf wide 1 13 ≡ 0
+  pub half-down-to-0 : half 499_999_999 ≡ 0
+  pub half-up-to-1 : half 500_000_000 ≡ 1
+  pub half-down-to-1 : half 1_499_999_999 ≡ 1
+  pub half-up-to-2 : half 1_500_000_000 ≡ 2
+  pub tranche-default : D worked 0 2 0 0 ≡ 54_300_000
+  pub tranche-premium : A worked 0 2 0 0 ≡ 218_700_000
+  pub index-default : D worked 1 2 0 0 ≡ 59_700_000
+  pub index-premium : A worked 1 2 0 0 ≡ 805_500_000
+  pub row-at-0 : distribution (treeOf worked) 2 0 ≡ 810_000_000
+  pub row-at-1 : distribution (treeOf worked) 2 1 ≡ 170_000_000
+  pub row-at-2 : distribution (treeOf worked) 2 2 ≡ 20_000_000
+
+-- The exact values of the deck, over B ^ 5, and its exact probabilities, over B ^ 2: all are whole units. Beside them the uneven pool's index, whose are not.
+pub record Exactly : Type 0 where
+  pub tranche-default : exactD worked 0 2 0 0 ≡ 54_300_000 * B ^ 5
+  pub tranche-premium : exactA worked 0 2 0 0 ≡ 218_700_000 * B ^ 5
+  pub index-default : exactD worked 1 2 0 0 ≡ 59_700_000 * B ^ 5
+  pub index-premium : exactA worked 1 2 0 0 ≡ 805_500_000 * B ^ 5
+  pub chance-of-0 : probability (treeOf worked) 2 0 ≡ 810_000_000 * B
+  pub chance-of-1 : probability (treeOf worked) 2 1 ≡ 170_000_000 * B
+  pub chance-of-2 : probability (treeOf worked) 2 2 ≡ 20_000_000 * B
+  pub uneven-default : exactD uneven 1 2 0 0 ≡ 55_084_334_121_420_493_856_152_191_186_177_138_024_252_270_000_000_000
+  pub uneven-premium : exactA uneven 1 2 0 0 ≡ 459_568_457_328_791_438_426_523_785_777_573_023_111_398_850_980_000_000
+
+-- The uneven pool: a loss is rounded down, and what is outstanding of the index up.
+-- One rounding in place of two would end the four node values in 4, 2, 2 and 2.
+pub record Roundings : Type 0 where
+  pub loss-at-1 : poolLossOf uneven 1 ≡ 216_666_666
+  pub loss-at-2 : poolLossOf uneven 2 ≡ 433_333_333
+  pub index-at-1 : outstandingOf uneven 1 1 ≡ 666_666_667
+  pub index-at-2 : outstandingOf uneven 1 2 ≡ 333_333_334
+  pub premium-after-1 : A uneven 0 1 1 0 ≡ 67_510_883
+  pub premium-after-2 : A uneven 0 2 0 0 ≡ 127_836_600
+  pub default-after-1 : D uneven 1 1 1 2 ≡ 73_140_253
+  pub default-after-2 : D uneven 1 2 0 2 ≡ 121_238_823
+  pub index-premium : A uneven 1 2 0 0 ≡ 459_568_458
+  pub row-at-0 : distribution (treeOf uneven) 2 0 ≡ 768_328_001
+  pub row-at-1 : distribution (treeOf uneven) 2 1 ≡ 202_713_000
+  pub row-at-2 : distribution (treeOf uneven) 2 2 ≡ 28_958_999
