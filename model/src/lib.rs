@@ -7,6 +7,9 @@
 //! - [`sheet`]: what the desk brings, and the checks on it
 //! - [`cash`]: rounding, losses, outstanding notional, payments
 //! - [`tree`]: rolling rows back, net values, hedge ratios, default counts
+//! - [`register`]: which sheet numbers are live, and what a power loss leaves
+//! - [`walk`]: the calls with everything lent to them and all their refusals
+//! - [`deck`]: the command deck and its printed listing
 //! - [`natural`]: whole numbers of any size
 //! - [`exact`]: unrounded values by brute force over lists of moves
 //! - [`worked`]: the small sheet whose figures document 01 prints
@@ -15,9 +18,12 @@
 //! its "cuts". Tranche number r stands for the index throughout.
 
 pub mod cash;
+pub mod deck;
 pub mod exact;
 pub mod natural;
 pub mod refusal;
+pub mod register;
 pub mod sheet;
 pub mod tree;
+pub mod walk;
 pub mod worked;

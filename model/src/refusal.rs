@@ -56,3 +56,12 @@ impl Refusal {
         }
     }
 }
+
+/// One check of a call.
+pub fn refuse_if(fault: bool, refusal: Refusal) -> Result<(), Refusal> {
+    if fault {
+        Err(refusal)
+    } else {
+        Ok(())
+    }
+}

@@ -1,6 +1,6 @@
 //! The sheet and its checks (document 01, "Sheet and units").
 
-use crate::refusal::Refusal;
+use crate::refusal::{refuse_if, Refusal};
 
 /// Units in the whole pool; also the "one" of every chance and discount.
 pub const B: u128 = 1_000_000_000;
@@ -83,22 +83,25 @@ impl Sheet {
 
 /// Checks 1 to 8, in the order of document 01; the first fault is named.
 pub fn check(sheet: &Sheet) -> Result<(), Refusal> {
-    refuse_if(pool_fault(sheet), Refusal::Pool)?;
+    check_pool(sheet)?;
     refuse_if(length_fault(sheet), Refusal::Length)?;
+    check_figures(sheet)
+}
+
+/// Check 1.
+pub fn check_pool(sheet: &Sheet) -> Result<(), Refusal> {
+    refuse_if(pool_fault(sheet), Refusal::Pool)
+}
+
+/// Checks 3 to 8. They stand apart from the others because a call has more
+/// lengths to check than those of the sheet's own lists.
+pub fn check_figures(sheet: &Sheet) -> Result<(), Refusal> {
     refuse_if(above(sheet.recovery, B), Refusal::Recovery)?;
     refuse_if(attachment_fault(sheet), Refusal::Cuts)?;
     refuse_if(hazard_fault(sheet), Refusal::Hazard)?;
     refuse_if(discount_fault(sheet), Refusal::Discount)?;
     refuse_if(accrual_fault(sheet), Refusal::Accrual)?;
     refuse_if(coupon_fault(sheet), Refusal::Coupon)
-}
-
-fn refuse_if(fault: bool, refusal: Refusal) -> Result<(), Refusal> {
-    if fault {
-        Err(refusal)
-    } else {
-        Ok(())
-    }
 }
 
 fn above(number: u64, limit: u128) -> bool {
@@ -114,7 +117,8 @@ fn pool_fault(sheet: &Sheet) -> bool {
 // From here on each fault may rely on the checks before its own: the lists
 // have their lengths, and none is empty.
 
-fn length_fault(sheet: &Sheet) -> bool {
+/// The part of check 2 that concerns the sheet's own lists.
+pub fn length_fault(sheet: &Sheet) -> bool {
     sheet.attachments.len() != sheet.tranches + 1
         || sheet.hazards.len() != sheet.names
         || sheet.discounts.len() != sheet.steps

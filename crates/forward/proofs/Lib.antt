@@ -1,0 +1,5 @@
+pub mod Tabled
+pub mod Filled
+pub mod Moves
+pub mod Alike
+pub mod Totals

@@ -1,0 +1,11 @@
+pub mod Tables
+pub mod Sweep
+pub mod Nodes
+pub mod Parts
+pub mod Rolls
+pub mod Losses
+pub mod Rolled
+pub mod Sums
+pub mod Turns
+pub mod Going
+pub mod Lent

@@ -1,0 +1,94 @@
+-- A test, and the proposition that holds just where the test is false. Assumes nothing.
+use Prim.Native.Nat.{ℕ, zero, suc, _≤_, _<_}
+use mathlib.Core.Path.{_≡_, refl, sym, ap}
+use mathlib.Core.Bool.{Bool, true, false, not, _||_}
+use mathlib.Core.Logic.{_↔_, _⊎_, inl, inr, ⊎-elim}
+use native.Mathlib.Omega.{arith}
+use native.Mathlib.Decide.{ℕ-discrete}
+use lib.Dec.{ltb, leb, eqb}
+use borrow.Author.Tests.{ltb-false, leb-false, eqb-true, eqb-false, not-false, le-ltb, lt-leb, eq-eqb, ne-eqb}
+use Rattle.rows.specs.Tables.{any}
+use Rattle.sheet.specs.Tests.{outside, differs}
+
+-- The proposition holds and the test is false, or it does not hold and the test is true.
+abbrev pub Judged : Bool → Type 0 → Type 0
+Judged b K = (K × (b ≡ false)) ⊎ ((¬ K) × (b ≡ true))
+
+pub never : true ≡ false → ⊥
+never e = let z : _≡_ {A = ℕ} 0 1 = cc in omega arith
+
+pub judged : {b : Bool} {K : Type 0} → (b ≡ false) ↔ K → Judged b K
+judged {b} {K} m = go b m
+  where
+    go : (t : Bool) → (t ≡ false) ↔ K → Judged t K
+    go false n = inl (n .0 refl, refl)
+    go true n = inr (λ k. never (n .1 k), refl)
+
+-- What a function that runs the test returns.
+pub kept : {b : Bool} {K : Type 0} → (b ≡ false) ↔ K → K → false ≡ b
+kept m k = sym (m .1 k)
+
+pub broken : {b : Bool} {K : Type 0} → (b ≡ false) ↔ K → ¬ K → true ≡ b
+broken m n = ⊎-elim (λ j. absurd (n (j .0))) (λ j. sym (j .1)) (judged m)
+
+pub or-left : (a b : Bool) → (a || b) ≡ false → a ≡ false
+or-left true b e = e
+or-left false b e = refl
+
+pub or-right : (a b : Bool) → (a || b) ≡ false → b ≡ false
+or-right true b e = absurd (never e)
+or-right false b e = e
+
+pub neither : (a b : Bool) → a ≡ false → b ≡ false → (a || b) ≡ false
+neither a b p q = rw (p, q)
+
+pub met-left : (a b : Bool) → a ≡ true → (a || b) ≡ true
+met-left a b p = rw p
+
+pub met-right : (a b : Bool) → b ≡ true → (a || b) ≡ true
+met-right true b p = refl
+met-right false b p = p
+
+pub or-fine : {a b : Bool} {P Q : Type 0} → (a ≡ false) ↔ P → (b ≡ false) ↔ Q → ((a || b) ≡ false) ↔ (P × Q)
+or-fine {a} {b} p q = (λ e. (p .0 (or-left a b e), q .0 (or-right a b e)), λ m. neither a b (p .1 (m .0)) (q .1 (m .1)))
+
+pub most-fine : (most y : ℕ) → (ltb most y ≡ false) ↔ (y ≤ most)
+most-fine most y = (ltb-false most y, le-ltb most y)
+
+pub rise-fine : (next before : ℕ) → (leb next before ≡ false) ↔ (before < next)
+rise-fine next before = (leb-false next before, lt-leb next before)
+
+pub outside-fine : (least most y : ℕ) → (outside least most y ≡ false) ↔ ((least ≤ y) × (y ≤ most))
+outside-fine least most y = or-fine (most-fine y least) (most-fine most y)
+
+pub differs-fine : (a b : ℕ) → (differs a b ≡ false) ↔ (a ≡ b)
+differs-fine a b = (λ e. eqb-true a b (not-false (eqb a b) e), λ e. ap not (eq-eqb a b e))
+
+pub some-fine : (a : ℕ) → (eqb a 0 ≡ false) ↔ (1 ≤ a)
+some-fine a = (λ e. let n : a ≡ 0 → ⊥ = eqb-false a 0 e in omega arith, λ h. ne-eqb a 0 (λ e. omega arith))
+
+-- A test at each of the first n numbers.
+pub any-hit : (n : ℕ) (f : ℕ → Bool) (i : ℕ) → i < n → f i ≡ true → any n f ≡ true
+unfolding any
+any-hit zero f i h e = absurd (omega arith)
+any-hit (suc n) f i h e = go (ℕ-discrete i n) (any-hit n f i)
+  where
+    go : Dec (i ≡ n) → (i < n → f i ≡ true → any n f ≡ true) → (any n f || f n) ≡ true
+    go (yes q) r = met-right (any n f) (f n) (rw q at e)
+    go (no q) r = rw (r (omega arith) e)
+
+pub any-missed : (n : ℕ) (f : ℕ → Bool) → ((i : ℕ) → i < n → f i ≡ false) → any n f ≡ false
+unfolding any
+any-missed zero f h = refl
+any-missed (suc n) f h = neither (any n f) (f n) (any-missed n f (λ i q. h i (omega arith))) (h n (omega arith))
+
+pub any-false : (n : ℕ) (f : ℕ → Bool) → any n f ≡ false → (i : ℕ) → i < n → f i ≡ false
+any-false n f e i h = go (f i) refl
+  where
+    go : (b : Bool) → f i ≡ b → f i ≡ false
+    go false p = p
+    go true p = absurd (never (let z : true ≡ false = cc (any-hit n f i h p) in z))
+
+-- If a test at a number is false just where P holds there, then no test of the first n is met just where P holds at each of them.
+pub any-fine : (n : ℕ) {f : ℕ → Bool} {P : ℕ → Type 0} → ((i : ℕ) → (f i ≡ false) ↔ P i) → (any n f ≡ false) ↔ ((i : ℕ) → i < n → P i)
+any-fine n {f} m = (λ e i h. m i .0 (any-false n f e i h), λ p. any-missed n f (λ i h. m i .1 (p i h)))

@@ -1,0 +1,4 @@
+pub mod Brought
+pub mod Refusals
+pub mod Limits
+pub mod Tests

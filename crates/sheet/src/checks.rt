@@ -1,0 +1,131 @@
+// The checks of a sheet's lists, each a yes or no. Each loop is a function of its own.
+ghost use mathlib.Core.Path.{_≡_};
+ghost use mathlib.Core.List.{[]};
+ghost use Prim.Native.Nat.{ℕ, suc, pred, _+_, _≤_, _<_};
+ghost use lib.ListN.{length, getD};
+ghost use lib.Dec.{ltb, leb};
+ghost use Rattle.cash.specs.Units.{B};
+ghost use Rattle.tree.specs.Sheet.{sumOf};
+ghost use Rattle.rows.specs.Tables.{any};
+ghost use Rattle.rows.specs.Rows.{sheetOf};
+ghost use Rattle.sheet.specs.Brought.{brought};
+ghost use Rattle.sheet.specs.Tests.{outside, listsBad, attachmentsBad, accrualsBad};
+use cash::UNITS;
+use rows::Pool;
+
+// 2: whether one of the sheet's own lists has another length. Few tranches, so that one more fits.
+pub fn lists_differ(
+    pool: Pool,
+    attachments: &[u64],
+    hazards: &[u64],
+    discounts: &[u64],
+    accruals: &[u64],
+    coupons: &[u64],
+) -> bool
+    requires { ⌜ pool .tranches ≤ 8 ⌝ }
+    ensures { λ r. ⌜ r ≡ listsBad (brought pool (now (attachments .entry)) (now (hazards .entry)) (now (discounts .entry)) (now (accruals .entry)) (now (coupons .entry))) ⌝ }
+{
+    let points = pool.tranches + 1;
+    if attachments.len() != points {
+        return true;
+    }
+    if hazards.len() != pool.names {
+        return true;
+    }
+    if discounts.len() != pool.steps {
+        return true;
+    }
+    if accruals.len() != pool.steps {
+        return true;
+    }
+    if coupons.len() != points {
+        return true;
+    }
+    false
+}
+
+// Whether a number of the list is above `most`.
+pub fn any_above(list: &[u64], most: u64) -> bool
+    ensures { λ r. ⌜ r ≡ any (length (now (list .entry))) (λ i. ltb most (getD (now (list .entry)) i 0)) ⌝ }
+{
+    let mut i = 0;
+    while i < list.len() {
+        if most < list[i] {
+            return true;
+        }
+        i += 1;
+    }
+    false
+}
+
+// Whether a number of the list is below `least` or above `most`.
+pub fn any_outside(list: &[u64], least: u64, most: u64) -> bool
+    ensures { λ r. ⌜ r ≡ any (length (now (list .entry))) (λ i. outside least most (getD (now (list .entry)) i 0)) ⌝ }
+{
+    let mut i = 0;
+    while i < list.len() {
+        if list[i] < least {
+            return true;
+        }
+        if most < list[i] {
+            return true;
+        }
+        i += 1;
+    }
+    false
+}
+
+// Whether a number of the list is no higher than the one before it.
+pub fn any_fall(list: &[u64]) -> bool
+    ensures { λ r. ⌜ r ≡ any (pred (length (now (list .entry)))) (λ j. leb (getD (now (list .entry)) (suc j) 0) (getD (now (list .entry)) j 0)) ⌝ }
+{
+    let mut i = 1;
+    while i < list.len() {
+        if list[i] <= list[i - 1] {
+            return true;
+        }
+        i += 1;
+    }
+    false
+}
+
+// The sum of a list that is short, and of small numbers, so that it fits.
+pub fn sum(list: &[u64]) -> u64
+    requires { ⌜ length (now list) ≤ 3650 ⌝ }
+    requires { ⌜ ((i : ℕ) → i < length (now list) → getD (now list) i 0 ≤ B) ⌝ }
+    ensures { λ r. ⌜ r ≡ sumOf (now (list .entry)) ⌝ }
+{
+    let mut total = 0;
+    let mut i = 0;
+    while i < list.len() {
+        total += list[i];
+        i += 1;
+    }
+    total
+}
+
+// 4: whether the attachment points do not rise, or one is above the pool.
+pub fn attachments_bad(pool: Pool, attachments: &[u64]) -> bool
+    requires { ⌜ length (now attachments) ≡ pool .tranches + 1 ⌝ }
+    ensures { λ r. ⌜ r ≡ attachmentsBad (sheetOf pool (now (attachments .entry)) [] [] []) ⌝ }
+{
+    if any_fall(attachments) {
+        return true;
+    }
+    any_above(attachments, UNITS)
+}
+
+// 7: whether an accrual or their sum is above its limit, or the last is 0.
+pub fn accruals_bad(pool: Pool, accruals: &[u64]) -> bool
+    requires { ⌜ (1 ≤ pool .steps) × (pool .steps ≤ 3650) × (length (now accruals) ≡ pool .steps) ⌝ }
+    ensures { λ r. ⌜ r ≡ accrualsBad (sheetOf pool [] [] [] (now (accruals .entry))) ⌝ }
+{
+    if any_above(accruals, UNITS) {
+        return true;
+    }
+    if 10 * UNITS < sum(accruals) {
+        return true;
+    }
+    let last = pool.steps - 1;
+    accruals[last] == 0
+}

@@ -1,0 +1,198 @@
+-- What is known of a call that passed the first checks of its order, and what it leaves by its last ones. Assumes nothing.
+use Prim.Native.Nat.{ℕ, suc, _+_, _-_, _*_, _≤_, _<_}
+use mathlib.Core.Path.{_≡_, refl, sym, _∙_, ap}
+use mathlib.Core.Bool.{Bool, true, false, _||_}
+use mathlib.Core.List.{List, [], _∷_}
+use native.Mathlib.Omega.{arith}
+use borrow.Author.Tests.{lt-ltb, le-ltb, le-leb, lt-leb, eq-eqb, ne-eqb}
+use lib.Dec.{leb, ltb, eqb}
+use lib.IntN.{ℤ, natAbs}
+use lib.ListN.{length, getD}
+use Rattle.cash.specs.Units.{B}
+use Rattle.cash.specs.declared.Hedge.the-variants as Hedge
+use Rattle.cash.specs.Hedges.{choose, ratioOf, hedgeOf}
+use Rattle.tree.specs.Sheet.{defaultOf, premiumOf, defaultMost, premiumMost}
+use Rattle.rows.specs.declared.Pool.{Pool}
+use Rattle.rows.specs.Rows.{nodeIn, rolledBack, soiled, spreadRow}
+use Rattle.rows.specs.Limits as Rows
+use Rattle.rows.proofs.Sums.{sum-drop-most}
+use Rattle.rows.proofs.Losses.{width-most, loss-bare}
+use Rattle.ceilings.proofs.Found.{unsoiled-rollable}
+use Rattle.sheet.specs.Brought.{Brought, brought}
+use Rattle.sheet.specs.declared.Refusal.{Refusal}
+use Rattle.sheet.specs.declared.Refusal.the-variants as Refusal
+use Rattle.sheet.specs.declared.Found.the-variants.{Fine, Refused}
+use Rattle.sheet.specs.Tests.{first, poolBad}
+use Rattle.sheet.proofs.Firsts.{first-none, first-met, first-passed}
+use Rattle.sheet.proofs.Limits.{within}
+use Rattle.walk.specs.declared.Walk.{Walk}
+use Rattle.walk.specs.declared.Answer.the-variants as Answer
+use Rattle.walk.specs.Answers as Lent
+use Rattle.walk.specs.Table.{nodeOf, jump, toTwelve}
+use Rattle.walk.specs.Calls.{rowsOf, tenTests, twelveTests, backTests, valueTests, ratioTests, forwardTests, rowBad, rolls, worth, backCall, valueCall, ratioCall, forwardCall}
+use Rattle.walk.specs.Reads.{Readable, hedgeAnswer}
+use Rattle.walk.proofs.Judging.{stands-fine}
+use Rattle.walk.proofs.Ordering.{OnWay, twelve-stands, twelve-holds, soiled-fine}
+use Rattle.walk.proofs.Firsts.{twelve-refused, twelve-fine, ten-alike, ten-refused, ten-fine}
+use Rattle.walk.proofs.Ruled.{notDone, notFilled, back-fine, back-refused, value-fine, value-refused, ratio-fine, ratio-refused, forward-fine, forward-refused}
+use Rattle.cash.proofs.Jumps.{jump-size}
+use Rattle.walk.proofs.Bounds.{rows-limits, row-size, node-figures}
+
+-- ---- past the first twelve checks
+
+pub on-way : (x : Brought) (g : List ℕ) (w : Walk) (l : Lent.Rows) → first (twelveTests x g w l []) ≡ Fine → OnWay x g w l
+on-way x g w l e = twelve-holds x g w l [] .0 (stands-fine _ _ (twelve-stands x g w l [] [] tt) .0 e) .0
+
+module _ (x : Brought) (g : List ℕ) (w : Walk) (l : Lent.Rows) (o : OnWay x g w l) where
+  pub rollable : (c : ℕ) → c ≤ w .position → Rows.Rollable (x .sheet) (l .defaults) (l .premiums) (w .position) c
+  rollable c h =
+      unsoiled-rollable (x .sheet) (l .defaults) (l .premiums) (w .position) c (rows-limits x (o .limits)) (row-size (x .sheet) (o .lent .defaults))
+      (row-size (x .sheet) (o .lent .premiums)) (o .walk .position) h (soiled-fine (x .sheet) (w .position) l .1 (o .clean))
+
+  pub readable : (j k : ℕ) → j ≤ x .sheet .tranches → k ≤ x .sheet .names → Readable x l j k
+  unfolding defaultMost premiumMost
+  readable j k p q =
+      record {
+        names = o .limits .pool .names .1;
+        tranches = o .limits .pool .tranches .1;
+        tranche = p;
+        count = q;
+        default-size = o .lent .defaults;
+        premium-size = o .lent .premiums;
+        default = omega (arith, o .clean .default j k p q, width-most (x .sheet) (within x (o .limits) .attachment-most) j);
+        premium = omega (arith, o .clean .premium j k p q, sum-drop-most (w .position) (x .sheet .accruals), o .limits .accruals .total);
+        coupons = o .lent .lists .coupons;
+        coupon = o .limits .coupons j (omega arith);
+      }
+
+-- What is read of a node rests on the pool, the attachments and the coupons alone.
+module _ (pool : Pool) (attachments hazards discounts accruals coupons : List ℕ) (l : Lent.Rows) (j k : ℕ) where
+  pub readable-told : (some : List ℕ) → Readable (brought pool attachments hazards discounts accruals coupons) l j k → Readable (brought pool some [] [] [] coupons) l j k
+  unfolding nodeIn
+  readable-told some r =
+      record {
+        names = r .names;
+        tranches = r .tranches;
+        tranche = r .tranche;
+        count = r .count;
+        default-size = r .default-size;
+        premium-size = r .premium-size;
+        default = r .default;
+        premium = r .premium;
+        coupons = r .coupons;
+        coupon = r .coupon;
+      }
+
+  pub worth-told : worth (brought pool [] [] [] [] coupons) l j k ≡ worth (brought pool attachments hazards discounts accruals coupons) l j k
+  unfolding worth nodeIn
+  worth-told = refl
+
+  pub jump-told : jump (brought pool attachments [] [] [] coupons) l j k ≡ jump (brought pool attachments hazards discounts accruals coupons) l j k
+  unfolding jump nodeOf nodeIn
+  jump-told = ap (λ (loss : ℕ → ℕ → ℕ). jumpBy loss) (loss-bare pool attachments hazards discounts accruals)
+    where
+      jumpBy : (ℕ → ℕ → ℕ) → ℤ
+      jumpBy loss =
+          Rattle.cash.specs.Hedges.jumpOf (getD coupons j 0)
+          (record { loss = loss j k; default = nodeIn (brought pool [] [] [] [] [] .sheet) (l .defaults) j k; premium = nodeIn (brought pool [] [] [] [] [] .sheet) (l .premiums) j k })
+          (record { loss = loss j (suc k); default = nodeIn (brought pool [] [] [] [] [] .sheet) (l .defaults) j (suc k); premium = nodeIn (brought pool [] [] [] [] [] .sheet) (l .premiums) j (suc k) })
+
+-- ---- the last checks of back, value and hedge ratio
+
+module _ (x : Brought) (g : List ℕ) (w : Walk) (l : Lent.Rows) where
+  module _ {f : Refusal} (e : first (twelveTests x g w l []) ≡ Refused f) where
+    pub back-not : (c : ℕ) → notDone f w l ≡ backCall x g w l c
+    unfolding backTests
+    back-not c = sym (back-refused x g w l c f (twelve-refused x g w l _ e))
+
+    pub value-not : (j k : ℕ) → notDone f w l ≡ valueCall x g w l j k
+    unfolding valueTests
+    value-not j k = sym (value-refused x g w l j k f (twelve-refused x g w l _ e))
+
+    pub ratio-not : (j k : ℕ) → notDone f w l ≡ ratioCall x g w l j k
+    unfolding ratioTests
+    ratio-not j k = sym (ratio-refused x g w l j k f (twelve-refused x g w l _ e))
+
+  module _ (e : first (twelveTests x g w l []) ≡ Fine) where
+    pub back-out : (c : ℕ) → w .position < c → notDone Refusal.OutOfSteps w l ≡ backCall x g w l c
+    unfolding backTests
+    back-out c h = sym (back-refused x g w l c _ (twelve-fine x g w l _ e ∙ first-met _ _ _ (lt-ltb _ _ h)))
+
+    pub back-done : (c : ℕ) → c ≤ w .position → (ds ps : List ℕ) → ds ≡ rolledBack (x .sheet) (defaultOf (x .sheet)) (w .position) c (l .defaults) →
+        ps ≡ rolledBack (x .sheet) (premiumOf (x .sheet)) (w .position) c (l .premiums) →
+        record { answer = Answer.Position (w .position - c); walk = record { «open» = w .«open»; number = w .number; position = w .position - c }; rows = rowsOf ds ps }
+        ≡ backCall x g w l c
+    unfolding backTests rolls
+    back-done c h ds ps d p =
+        (λ i. record {
+          answer = Answer.Position (w .position - c);
+          walk = record { «open» = w .«open»; number = w .number; position = w .position - c };
+          rows = rowsOf (d i) (p i);
+        })
+        ∙ sym (back-fine x g w l c (twelve-fine x g w l _ e ∙ first-passed _ _ _ (le-ltb _ _ h) ∙ first-none))
+
+    pub value-off : (j k : ℕ) → (ltb (x .sheet .tranches) j || ltb (x .sheet .names) k) ≡ true → notDone Refusal.OffTree w l ≡ valueCall x g w l j k
+    unfolding valueTests
+    value-off j k h = sym (value-refused x g w l j k _ (twelve-fine x g w l _ e ∙ first-met _ _ _ h))
+
+    pub value-done : (j k : ℕ) → j ≤ x .sheet .tranches → k ≤ x .sheet .names → record { answer = worth x l j k; walk = w; rows = l } ≡ valueCall x g w l j k
+    unfolding valueTests
+    value-done j k p q = sym (value-fine x g w l j k (twelve-fine x g w l _ e ∙ first-passed _ _ _ (simp (le-ltb _ _ p, le-ltb _ _ q)) ∙ first-none))
+
+    pub ratio-off : (j k : ℕ) → (ltb (x .sheet .tranches) j || leb (x .sheet .names) k) ≡ true → notDone Refusal.OffTree w l ≡ ratioCall x g w l j k
+    unfolding ratioTests
+    ratio-off j k h = sym (ratio-refused x g w l j k _ (twelve-fine x g w l _ e ∙ first-met _ _ _ h))
+
+-- Off the tree by the tranche, or by the count.
+pub off-tranche : (a b : Bool) → a ≡ true → (a || b) ≡ true
+off-tranche a b e = simp e
+
+pub off-count : (a b : Bool) → a ≡ false → b ≡ true → (a || b) ≡ true
+off-count a b e f = simp (e, f)
+
+-- The hedge ratio where its node is on the tree: 15, 16 or the ratio.
+module _ (x : Brought) (g : List ℕ) (w : Walk) (l : Lent.Rows) (e : first (twelveTests x g w l []) ≡ Fine) (j k : ℕ) (p : j ≤ x .sheet .tranches) (q : k < x .sheet .names) where
+  abbrev own : ℤ
+  own = jump x l j k
+
+  abbrev index : ℤ
+  index = jump x l (x .sheet .tranches) k
+
+  on-tree : first (ratioTests x g w l j k)
+      ≡ first ((eqb (natAbs index) 0, Refusal.FlatHedge) ∷ (leb (1_000_000 * natAbs index) (natAbs own), Refusal.OffScale) ∷ [])
+  unfolding ratioTests
+  on-tree = twelve-fine x g w l _ e ∙ first-passed _ _ _ (simp (le-ltb _ _ p, lt-leb _ _ q))
+
+  pub ratio-done : record { answer = hedgeAnswer (hedgeOf own index); walk = w; rows = l } ≡ ratioCall x g w l j k
+  unfolding hedgeOf
+  ratio-done = go (eqb (natAbs index) 0) refl (leb (1_000_000 * natAbs index) (natAbs own)) refl
+    where
+      go : (a : Bool) → eqb (natAbs index) 0 ≡ a → (b : Bool) → leb (1_000_000 * natAbs index) (natAbs own) ≡ b →
+          record { answer = hedgeAnswer (choose a Hedge.Flat (choose b Hedge.OffScale (Hedge.Millionths (ratioOf own index)))); walk = w; rows = l } ≡ ratioCall x g w l j k
+      go true d b f = sym (ratio-refused x g w l j k _ (on-tree ∙ first-met _ _ _ d))
+      go false d true f = sym (ratio-refused x g w l j k _ (on-tree ∙ first-passed _ _ _ d ∙ first-met _ _ _ f))
+      go false d false f = sym (ratio-fine x g w l j k (on-tree ∙ first-passed _ _ _ d ∙ first-passed _ _ _ f ∙ first-none))
+
+-- ---- forward
+
+module _ (x : Brought) (g q : List ℕ) (lent : Bool) (same : poolBad (x .sheet) ≡ false → lent ≡ rowBad x g q) (i : ℕ) where
+  pub forward-not : {f : Refusal} → first (tenTests x g lent []) ≡ Refused f → notFilled f q ≡ forwardCall x g q i
+  unfolding forwardTests
+  forward-not e = sym (forward-refused x g q i _ (ten-refused x g (rowBad x g q) _ (sym (ten-alike x g lent (rowBad x g q) [] same) ∙ e)))
+
+  module _ (e : first (tenTests x g lent []) ≡ Fine) where
+    ten-on : first (forwardTests x g q i) ≡ first ((ltb (x .sheet .steps) i, Refusal.OutOfSteps) ∷ [])
+    unfolding forwardTests
+    ten-on = ten-fine x g (rowBad x g q) _ (sym (ten-alike x g lent (rowBad x g q) [] same) ∙ e)
+
+    pub forward-out : x .sheet .steps < i → notFilled Refusal.OutOfSteps q ≡ forwardCall x g q i
+    forward-out h = sym (forward-refused x g q i _ (ten-on ∙ first-met _ _ _ (lt-ltb _ _ h)))
+
+    pub forward-done : i ≤ x .sheet .steps → (row : List ℕ) → row ≡ spreadRow (x .sheet) i → record { answer = Answer.Done; row = row } ≡ forwardCall x g q i
+    forward-done h row r = (λ k. record { answer = Answer.Done; row = r k }) ∙ sym (forward-fine x g q i (ten-on ∙ first-passed _ _ _ (le-ltb _ _ h) ∙ first-none))
+
+-- ---- how large a jump is
+
+pub jump-few : (x : Brought) (l : Lent.Rows) (j k : ℕ) → Rows.Tranched (x .sheet) → Readable x l j k → Readable x l j (suc k) → natAbs (jump x l j k) ≤ 200_000_000_000_000_000
+unfolding jump
+jump-few x l j k t r s = jump-size (getD (x .coupons) j 0) _ _ (r .coupon) (node-figures x l j k t r refl) (node-figures x l j (suc k) t s refl)

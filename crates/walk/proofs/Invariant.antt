@@ -1,0 +1,251 @@
+-- What every list of calls keeps, by the rules of the calls alone. Assumes nothing.
+use Prim.Native.Nat.{ℕ, zero, suc, _+_, _-_, _≤_}
+use mathlib.Core.Path.{_≡_, refl, sym, _∙_, ap, subst}
+use mathlib.Core.Bool.{Bool, true, false, cond, _&&_, _||_, false≢true}
+use mathlib.Core.List.{List, [], _∷_}
+use mathlib.Core.Option.{some, Option·some-injective, Option·none-ne-some}
+use mathlib.Core.Logic.{_≢_, _⊎_, inl, inr}
+use native.Mathlib.Omega.{arith}
+use native.Mathlib.Decide.{ℕ-discrete}
+use native.Mathlib.Nat.{add-zero}
+use lib.ListN.{length, getD, set, length-set}
+use lib.Seq.{getD-set-other}
+use lib.Dec.{eqb}
+use borrow.Author.Tests.{eqb-true}
+use Rattle.register.specs.Rules.{Unissued, Live}
+use Rattle.sheet.specs.Brought.{Brought}
+use Rattle.sheet.specs.Limits.{Limits}
+use Rattle.walk.specs.declared.Walk.{Walk}
+use Rattle.walk.specs.Answers.{Rows, accepted}
+use Rattle.walk.specs.Does.{Entered, Moved, Walks, Issues, Withdraws, Opens, Backs, Values}
+use Rattle.walk.specs.Engine.{Engine}
+use Rattle.walk.specs.Lists.{Lent, same, other, lent, kept, Call, issue, withdraw, opening, back, value, State, entered, begun, went, turn, History, isSame, noted, after, told, nothing, Run, end, history}
+use Rattle.walk.specs.Promise.{Rules}
+use Rattle.walk.proofs.Orders.{issue-holds, open-holds, back-holds}
+use Rattle.walk.proofs.Steps.{Holding, walks, zeros-hold}
+
+-- How the walk on x stands: the position is what is left of the steps, and the rows hold D and A where back and value were lent them.
+pub record Stands (x : Brought) (k : History) (s : State) : Type 0 where
+  pub limits : Limits x
+  pub opened : s .walk .«open» ≡ true
+  pub number : s .walk .number ≡ x .number
+  pub place : s .walk .position + k .walked ≡ x .sheet .steps
+  pub held : k .own ≡ true → Holding (x .sheet) (k .walked) (s .walk .position) (s .rows)
+
+pub record Inv (book : ℕ → Brought) (s : State) (k : History) : Type 0 where
+  pub size : length (s .register) ≡ 256
+  pub out : (y : ℕ) → k .gone y ≡ true → getD (s .register) y 0 ≡ 0
+  pub stood : (y : ℕ) → k .opened ≡ some y → Stands (book y) k s
+
+-- ---- the register
+
+set-zero : (g : List ℕ) (y : ℕ) → getD (set g y 0) y 0 ≡ 0
+set-zero [] zero = refl
+set-zero [] (suc y) = refl
+set-zero (a ∷ g) zero = refl
+set-zero (a ∷ g) (suc y) = set-zero g y
+
+pub writes-zero : (g : List ℕ) (y z : ℕ) → (z ≡ y) ⊎ (getD g z 0 ≡ 0) → getD (set g y 0) z 0 ≡ 0
+writes-zero g y z (inl e) = rw e (set-zero g y)
+writes-zero g y z (inr p) = go (ℕ-discrete z y)
+  where
+    go : Dec (z ≡ y) → getD (set g y 0) z 0 ≡ 0
+    go (yes e) = rw e (set-zero g y)
+    go (no e) = getD-set-other g y z 0 0 e ∙ p
+
+-- A byte 00 stays, whatever is written where another byte stands.
+pub zero-stays : (g : List ℕ) (y z b : ℕ) → getD g y 0 ≢ 0 → getD g z 0 ≡ 0 → getD (set g y b) z 0 ≡ 0
+zero-stays g y z b n p = getD-set-other g y z b 0 (λ e. n (rw e at p)) ∙ p
+
+pub unissued-some : (g : List ℕ) (y : ℕ) → Unissued g y → getD g y 0 ≢ 0
+unissued-some g y u e = omega (arith, u .byte)
+
+pub live-some : (g : List ℕ) (y : ℕ) → Live g y → getD g y 0 ≢ 0
+live-some g y u e = omega (arith, u .byte)
+
+-- ---- Booleans
+
+pub or-cases : (a b : Bool) → (a || b) ≡ true → (a ≡ true) ⊎ (b ≡ true)
+or-cases true b e = inl refl
+or-cases false b e = inr e
+
+pub both : (a b : Bool) → (a && b) ≡ true → (a ≡ true) × (b ≡ true)
+both true b e = (refl, e)
+both false b e = absurd (false≢true e)
+
+-- ---- the rows lent
+
+pub kept-lent : (t : Lent) (l : Rows) → kept t l (lent t l) ≡ l
+kept-lent same l = refl
+kept-lent (other m) l = refl
+
+-- ---- each call
+
+module _ (book : ℕ → Brought) (bears : (y : ℕ) → book y .number ≡ y) (s : State) (k : History) (inv : Inv book s k) where
+  -- The walk goes on as it stood, with as much known of its rows, or less.
+  stays : (own : Bool) (w : Walk) (l : Rows) (g : List ℕ) (gone : ℕ → Bool) → (own ≡ true → k .own ≡ true) → w ≡ s .walk → l ≡ s .rows → (y : ℕ) → k .opened ≡ some y →
+      Stands (book y) (record { opened = k .opened; walked = k .walked; own = own; gone = gone }) (record { register = g; walk = w; rows = l })
+  stays own w l g gone o ew el y p =
+      let q = inv .stood y p in
+      record {
+        limits = q .limits;
+        opened = rw ew (q .opened);
+        number = rw ew (q .number);
+        place = rw ew (q .place);
+        held = λ t. rw (ew, el) (q .held (o t));
+      }
+
+  keep-issue : (y : ℕ) (o : Entered) → Issues (s .register) y o → Inv book (entered s o .state) k
+  unfolding entered
+  keep-issue y o r = go (accepted (o .said)) refl
+    where
+      go : (b : Bool) → accepted (o .said) ≡ b → Inv book (record { register = o .register; walk = s .walk; rows = s .rows }) k
+      go true e =
+          let d = r .writes .does e .1 in
+          let u = issue-holds (s .register) y (o .said) (r .judged) e in
+          record {
+            size = ap length d ∙ length-set (s .register) y 0xA5 ∙ inv .size;
+            out = λ z p. ap (λ g. getD g z 0) d ∙ zero-stays (s .register) y z 0xA5 (unissued-some _ _ u) (inv .out z p);
+            stood = stays (k .own) (s .walk) (s .rows) _ (k .gone) (λ t. t) refl refl;
+          }
+      go false e = rw (r .writes .leaves e) inv
+
+  keep-withdraw : (y : ℕ) (o : Entered) → Withdraws (s .register) y o → Inv book (entered s o .state) (noted k (withdraw y) (o .said))
+  unfolding entered noted
+  keep-withdraw y o r = go (accepted (o .said)) refl
+    where
+      go : (b : Bool) → accepted (o .said) ≡ b →
+          Inv book (record { register = o .register; walk = s .walk; rows = s .rows })
+          (record { opened = k .opened; walked = k .walked; own = k .own; gone = λ z. accepted (o .said) && eqb z y || k .gone z })
+      go true e =
+          let d = r .writes .does e .1 in
+          record {
+            size = ap length d ∙ length-set (s .register) y 0x00 ∙ inv .size;
+            out = λ z p. ap (λ g. getD g z 0) d ∙ writes-zero (s .register) y z (which z (or-cases _ _ p));
+            stood = stays (k .own) (s .walk) (s .rows) _ _ (λ t. t) refl refl;
+          }
+        where
+          which : (z : ℕ) → ((accepted (o .said) && eqb z y) ≡ true) ⊎ (k .gone z ≡ true) → (z ≡ y) ⊎ (getD (s .register) z 0 ≡ 0)
+          which z (inl p) = inl (eqb-true z y (both (accepted (o .said)) (eqb z y) p .1))
+          which z (inr p) = inr (inv .out z p)
+      go false e =
+          record {
+            size = ap length (r .writes .leaves e) ∙ inv .size;
+            out = λ z p. ap (λ g. getD g z 0) (r .writes .leaves e) ∙ inv .out z (rw e at p);
+            stood = stays (k .own) (s .walk) (s .rows) _ _ (λ t. t) refl refl;
+          }
+
+  keep-open : (y : ℕ) (t : Lent) (o : Moved) → Opens (book y) (s .register) (s .walk) (lent t (s .rows)) o →
+      Inv book (begun s t o .state) (noted k (opening y t) (o .said))
+  unfolding begun noted
+  keep-open y t o r = go (accepted (o .said)) refl
+    where
+      go : (b : Bool) → accepted (o .said) ≡ b →
+          Inv book (record { register = s .register; walk = o .walk; rows = cond (accepted (o .said)) (o .rows) (kept t (s .rows) (o .rows)) })
+          (cond (accepted (o .said)) (record { opened = some y; walked = 0; own = true; gone = k .gone }) k)
+      go true e =
+          let d = r .does e in
+          rw e (record {
+            size = inv .size;
+            out = inv .out;
+            stood = λ z p.
+                subst (λ v. Stands (book v) (record { opened = some y; walked = 0; own = true; gone = k .gone }) (record { register = s .register; walk = o .walk; rows = o .rows }))
+                (Option·some-injective y z p)
+                (record {
+                  limits = open-holds (book y) (s .register) (s .walk) (lent t (s .rows)) (o .said) (r .judged) e .limits;
+                  opened = ap (λ w. w .«open») (d .walk);
+                  number = ap (λ w. w .number) (d .walk);
+                  place = rw (d .walk) (add-zero (book y .sheet .steps));
+                  held = λ h. rw (d .walk) (zeros-hold (book y .sheet) (o .rows) (d .default-size) (d .premium-size) (d .default) (d .premium));
+                });
+          })
+      go false e =
+          let d = r .leaves e in
+          rw (e, d .0, d .1, kept-lent) inv
+
+  keep-back : (y : ℕ) (t : Lent) (c : ℕ) (o : Moved) → Backs (book y) (s .register) (s .walk) (lent t (s .rows)) c o →
+      Inv book (went s t o .state) (noted k (back y t c) (o .said))
+  unfolding went noted
+  keep-back y t c o r = go (accepted (o .said)) refl
+    where
+      held : (t : Lent) (z : ℕ) → Stands (book z) k s → z ≡ y → c ≤ s .walk .position → Walks (book y .sheet) c (s .walk .position) (lent t (s .rows)) (o .rows) →
+          (k .own && isSame t) ≡ true → Holding (book z .sheet) (k .walked + c) (s .walk .position - c) (kept t (s .rows) (o .rows))
+      held same z q e far w h =
+          walks (book z .sheet) (q .limits .lists .hazards) c (k .walked) (s .walk .position) (s .rows) (o .rows) far (rw e w) (q .held (both _ _ h .0))
+      held (other l) z q e far w h = absurd (false≢true (both (k .own) false h .1))
+
+      go : (b : Bool) → accepted (o .said) ≡ b →
+          Inv book (record { register = s .register; walk = o .walk; rows = kept t (s .rows) (o .rows) })
+          (record { opened = k .opened; walked = cond (accepted (o .said)) (k .walked + c) (k .walked); own = k .own && isSame t; gone = k .gone })
+      go true e =
+          let d = r .does e in
+          let a = back-holds (book y) (s .register) (s .walk) (lent t (s .rows)) (o .said) c (r .judged) e in
+          record {
+            size = inv .size;
+            out = inv .out;
+            stood = λ z p.
+                let q = inv .stood z p in
+                let far : c ≤ s .walk .position = a .steps in
+                let z=y : z ≡ y = sym (bears z) ∙ sym (q .number) ∙ a .walk .number ∙ bears y in
+                record {
+                  limits = q .limits;
+                  opened = rw (d .walk) (q .opened);
+                  number = rw (d .walk) (q .number);
+                  place = rw (d .walk, e) (omega (arith, q .place));
+                  held = λ h. rw (d .walk, e) (held t z q z=y far (d .rows) h);
+                };
+          }
+      go false e =
+          let d = r .leaves e in
+          rw e (record {
+            size = inv .size;
+            out = inv .out;
+            stood = stays (k .own && isSame t) _ _ _ _ (λ h. both _ _ h .0) (d .0) (ap (kept t (s .rows)) (d .1) ∙ kept-lent t (s .rows));
+          })
+
+  keep-value : (y : ℕ) (t : Lent) (i j : ℕ) (o : Moved) → Values (book y) (s .register) (s .walk) (lent t (s .rows)) i j o →
+      Inv book (went s t o .state) (noted k (value y t i j) (o .said))
+  unfolding went noted
+  keep-value y t i j o r = go (accepted (o .said)) refl
+    where
+      stay : o .walk ≡ s .walk → o .rows ≡ lent t (s .rows) →
+          Inv book (record { register = s .register; walk = o .walk; rows = kept t (s .rows) (o .rows) })
+          (record { opened = k .opened; walked = k .walked; own = k .own && isSame t; gone = k .gone })
+      stay w l =
+          record {
+            size = inv .size;
+            out = inv .out;
+            stood = stays (k .own && isSame t) _ _ _ _ (λ h. both _ _ h .0) w (ap (kept t (s .rows)) l ∙ kept-lent t (s .rows));
+          }
+
+      go : (b : Bool) → accepted (o .said) ≡ b →
+          Inv book (record { register = s .register; walk = o .walk; rows = kept t (s .rows) (o .rows) })
+          (record { opened = k .opened; walked = k .walked; own = k .own && isSame t; gone = k .gone })
+      go true e = stay (r .does e .walk) (r .does e .rows)
+      go false e = stay (r .leaves e .0) (r .leaves e .1)
+
+module _ (e : Engine) (rules : Rules e) (book : ℕ → Brought) (bears : (y : ℕ) → book y .number ≡ y) where
+  keep : (s : State) (k : History) → Inv book s k → (c : Call) → Inv book (turn e book s c .state) (noted k c (turn e book s c .said))
+  unfolding turn entered begun went
+  keep s k inv (issue y) = unfold noted in keep-issue book bears s k inv y _ (rules .issue _ y)
+  keep s k inv (withdraw y) = keep-withdraw book bears s k inv y _ (rules .withdraw _ y)
+  keep s k inv (opening y t) = keep-open book bears s k inv y t _ (rules .opening _ _ _ _)
+  keep s k inv (back y t c) = keep-back book bears s k inv y t c _ (rules .back _ _ _ _ c)
+  keep s k inv (value y t i j) = keep-value book bears s k inv y t i j _ (rules .value _ _ _ _ i j)
+
+  keep-all : (s : State) (k : History) → Inv book s k → (l : List Call) → Inv book (after e book s l) (told e book s k l)
+  unfolding after told
+  keep-all s k inv [] = inv
+  keep-all s k inv (c ∷ l) = keep-all _ _ (keep s k inv c) l
+
+at-start : (book : ℕ → Brought) (s : State) → length (s .register) ≡ 256 → Inv book s nothing
+at-start book s e =
+    record {
+      size = e;
+      out = λ y p. absurd (false≢true p);
+      stood = λ y p. absurd (Option·none-ne-some y p);
+    }
+
+-- Where any list ends.
+pub known : (e : Engine) → Rules e → (u : Run) → Inv (u .book .sheet) (end e u) (history e u)
+known e rules u = keep-all e rules (u .book .sheet) (u .book .bears) _ _ (at-start (u .book .sheet) (u .start) (u .whole)) (u .calls)

@@ -1,0 +1,263 @@
+-- The tests of each call stand for its order of rules; what the rules of an order come to. Assumes nothing.
+use Prim.Native.Nat.{ℕ, suc, _+_, _*_, _≤_, _<_}
+use mathlib.Core.Path.{_≡_, refl, sym, _∙_, ap}
+use mathlib.Core.Bool.{Bool, true, false, not, _||_, true≢false}
+use mathlib.Core.List.{List, [], _∷_}
+use mathlib.Core.Logic.{_↔_, Iff·trans, _⊎_, inl, inr}
+use native.Mathlib.Omega.{arith}
+use native.Mathlib.Decide.{ℕ-discrete}
+use lib.ListN.{length, getD}
+use lib.IntN.{natAbs}
+use borrow.Author.Tests.{eqb-false, ne-eqb, not-false}
+use Rattle.register.specs.declared.answers.Status.{Status}
+use Rattle.register.specs.declared.answers.Status.the-variants as Status
+use Rattle.register.specs.Register.{statusIn}
+use Rattle.register.specs.Rules.{Unissued, Live}
+use Rattle.tree.specs.Sheet.{Sheet, defaultMost, premiumMost}
+use Rattle.rows.specs.Rows.{nodeIn, anyOver, soiled}
+use Rattle.sheet.specs.Brought.{Brought}
+use Rattle.sheet.specs.Limits.{ListsFit, Limits}
+use Rattle.sheet.specs.Tests.{Test, listsBad, sheetTests}
+use Rattle.sheet.proofs.Judged.{or-fine, most-fine, rise-fine, differs-fine, any-fine}
+use Rattle.sheet.proofs.Meanings.{pool-fine, lengths-fine, recovery-fine, attachments-fine, hazards-fine, discounts-fine, accruals-fine, coupons-fine}
+use Rattle.walk.specs.declared.Walk.{Walk}
+use Rattle.walk.specs.Answers.{Rows}
+use Rattle.walk.specs.Table.{LentFit, ForwardFit, OnWalk, Clean, jump, Order, toTen, toTwelve, openOrder, backOrder, valueOrder, ratioOrder, forwardOrder}
+use Rattle.walk.specs.Calls.{rowsBad, rowBad, isWithdrawn, isUnissued, walkBad, tenTests, twelveTests, openTests, backTests, valueTests, ratioTests, forwardTests}
+use Rattle.walk.proofs.Judging.{Holds, Stands}
+
+-- ---- 2: the lengths
+
+module _ (x : Brought) (g : List ℕ) where
+  pub rows-lent-fine : (l : Rows) → ((listsBad x || rowsBad x g l) ≡ false) ↔ LentFit x g l
+  unfolding rowsBad
+  rows-lent-fine l =
+      Iff·trans
+      (lengths-fine x (or-fine (or-fine
+      (differs-fine (length g) 256)
+      (differs-fine (length (l .defaults)) ((x .sheet .tranches + 1) * (x .sheet .names + 1))))
+      (differs-fine (length (l .premiums)) ((x .sheet .tranches + 1) * (x .sheet .names + 1)))))
+      (λ m. record { lists = m .0; size = m .1 .0 .0; defaults = m .1 .0 .1; premiums = m .1 .1 }, λ p. (p .lists, ((p .size, p .defaults), p .premiums)))
+
+  pub row-lent-fine : (q : List ℕ) → ((listsBad x || rowBad x g q) ≡ false) ↔ ForwardFit x g q
+  unfolding rowBad
+  row-lent-fine q =
+      Iff·trans
+      (lengths-fine x (or-fine (differs-fine (length g) 256) (differs-fine (length q) (x .sheet .names + 1))))
+      (λ m. record { lists = m .0; size = m .1 .0; row = m .1 .1 }, λ p. (p .lists, (p .size, p .row)))
+
+-- ---- 9 and 10: the register, of the right length
+
+module _ (g : List ℕ) (y : ℕ) (long : length g ≡ 256) where
+  status-unissued : getD g y 0 ≡ 0xFF → statusIn g y ≡ Status.Unissued
+  status-unissued e = rw e
+
+  status-live : getD g y 0 ≡ 0xA5 → statusIn g y ≡ Status.Live
+  status-live e = rw e
+
+  status-gone : ¬ (getD g y 0 ≡ 0xFF) → ¬ (getD g y 0 ≡ 0xA5) → statusIn g y ≡ Status.Withdrawn
+  status-gone e f = simp (ne-eqb (getD g y 0) 0xFF e, ne-eqb (getD g y 0) 0xA5 f)
+
+  pub withdrawn-fine : (isWithdrawn (statusIn g y) ≡ false) ↔ (Unissued g y ⊎ Live g y)
+  withdrawn-fine = go (ℕ-discrete (getD g y 0) 0xFF) (ℕ-discrete (getD g y 0) 0xA5)
+    where
+      go : Dec (getD g y 0 ≡ 0xFF) → Dec (getD g y 0 ≡ 0xA5) → (isWithdrawn (statusIn g y) ≡ false) ↔ (Unissued g y ⊎ Live g y)
+      go (yes d) e = (λ p. inl (record { size = long; byte = d }), λ p. ap isWithdrawn (status-unissued d))
+      go (no d) (yes e) = (λ p. inr (record { size = long; byte = e }), λ p. ap isWithdrawn (status-live e))
+      go (no d) (no e) = (λ p. absurd (true≢false (sym (ap isWithdrawn (status-gone d e)) ∙ p)), never)
+        where
+          never : Unissued g y ⊎ Live g y → isWithdrawn (statusIn g y) ≡ false
+          never (inl u) = absurd (d (u .byte))
+          never (inr u) = absurd (e (u .byte))
+
+  pub unissued-fine : (isUnissued (statusIn g y) ≡ false) ↔ (¬ (Unissued g y))
+  unissued-fine = go (ℕ-discrete (getD g y 0) 0xFF) (ℕ-discrete (getD g y 0) 0xA5)
+    where
+      go : Dec (getD g y 0 ≡ 0xFF) → Dec (getD g y 0 ≡ 0xA5) → (isUnissued (statusIn g y) ≡ false) ↔ (¬ (Unissued g y))
+      go (yes d) e = (λ p. absurd (true≢false (sym (ap isUnissued (status-unissued d)) ∙ p)), λ p. absurd (p (record { size = long; byte = d })))
+      go (no d) (yes e) = (λ p u. d (u .byte), λ p. ap isUnissued (status-live e))
+      go (no d) (no e) = (λ p u. d (u .byte), λ p. ap isUnissued (status-gone d e))
+
+-- ---- 11 and 12: the walk and its rows
+
+pub walk-fine : (x : Brought) (w : Walk) → (walkBad x w ≡ false) ↔ OnWalk x w
+unfolding walkBad
+walk-fine x w =
+    Iff·trans
+    (or-fine (or-fine (opened-fine (w .«open»)) (differs-fine (w .number) (x .number))) (most-fine (x .sheet .steps) (w .position)))
+    (λ m. record { opened = m .0 .0; number = m .0 .1; position = m .1 }, λ p. ((p .opened, p .number), p .position))
+  where
+    opened-fine : (b : Bool) → (not b ≡ false) ↔ (b ≡ true)
+    opened-fine b = (not-false b, ap not)
+
+pub over-fine : (x : Sheet) (most : ℕ → ℕ → ℕ) (row : List ℕ)
+    → (anyOver x most row ≡ false) ↔ ((j k : ℕ) → j ≤ x .tranches → k ≤ x .names → nodeIn x row j k ≤ most j k)
+unfolding anyOver
+over-fine x most row =
+    Iff·trans (any-fine (suc (x .tranches)) (λ j. any-fine (suc (x .names)) (λ k. most-fine (most j k) (nodeIn x row j k))))
+    (λ m j k p q. m j (omega arith) k (omega arith), λ m j p k q. m j k (omega arith) (omega arith))
+
+pub soiled-fine : (x : Sheet) (i : ℕ) (l : Rows) → (soiled x i (l .defaults) (l .premiums) ≡ false) ↔ Clean x i l
+unfolding soiled
+soiled-fine x i l =
+    Iff·trans (or-fine (over-fine x (defaultMost x) (l .defaults)) (over-fine x (λ j k. premiumMost x i k) (l .premiums)))
+    (λ m. record { default = m .0; premium = m .1 }, λ p. (p .default, p .premium))
+
+-- ---- the orders
+
+module _ (x : Brought) (g : List ℕ) where
+  -- Checks 1 to 10, with any check of the lengths that has the register's.
+  pub ten-stands : (lent : Bool) (K : Type 0) (more : List Test) (m : Order) → ((listsBad x || lent) ≡ false) ↔ K → (K → length g ≡ 256)
+      → Stands more m → Stands (tenTests x g lent more) (toTen x g K m)
+  unfolding tenTests sheetTests
+  ten-stands lent K more m lengths long rest = (
+    pool-fine (x .sheet),
+    refl,
+    λ k1. (
+      lengths,
+      refl,
+      λ k2. (
+        recovery-fine (x .sheet),
+        refl,
+        λ k3. (
+          attachments-fine (x .sheet),
+          refl,
+          λ k4. (
+            hazards-fine (x .sheet),
+            refl,
+            λ k5. (
+              discounts-fine (x .sheet),
+              refl,
+              λ k6. (
+                accruals-fine (x .sheet),
+                refl,
+                λ k7. (
+                  coupons-fine x,
+                  refl,
+                  λ k8.
+                      (withdrawn-fine g (x .number) (long k2), refl, λ k9. (unissued-fine g (x .number) (long k2), refl, λ k10. rest)),
+                ),
+              ),
+            ),
+          ),
+        ),
+      ),
+    ),
+  )
+
+  pub twelve-stands : (w : Walk) (l : Rows) (more : List Test) (m : Order) → Stands more m → Stands (twelveTests x g w l more) (toTwelve x g w l m)
+  unfolding twelveTests
+  twelve-stands w l more m rest =
+      ten-stands (rowsBad x g l) _ _ _ (rows-lent-fine x g l) (λ k. k .size)
+      (walk-fine x w, refl, λ k11. (soiled-fine (x .sheet) (w .position) l, refl, λ k12. rest))
+
+  pub open-stands : (l : Rows) → Stands (openTests x g l) (openOrder x g l)
+  unfolding openTests
+  open-stands l = ten-stands (rowsBad x g l) _ [] [] (rows-lent-fine x g l) (λ k. k .size) tt
+
+  pub back-stands : (w : Walk) (l : Rows) (c : ℕ) → Stands (backTests x g w l c) (backOrder x g w l c)
+  unfolding backTests
+  back-stands w l c = twelve-stands w l _ _ (most-fine (w .position) c, refl, λ k. tt)
+
+  pub value-stands : (w : Walk) (l : Rows) (j k : ℕ) → Stands (valueTests x g w l j k) (valueOrder x g w l j k)
+  unfolding valueTests
+  value-stands w l j k = twelve-stands w l _ _ (or-fine (most-fine (x .sheet .tranches) j) (most-fine (x .sheet .names) k), refl, λ k. tt)
+
+  pub ratio-stands : (w : Walk) (l : Rows) (j k : ℕ) → Stands (ratioTests x g w l j k) (ratioOrder x g w l j k)
+  unfolding ratioTests
+  ratio-stands w l j k =
+      twelve-stands w l _ _ (
+        or-fine (most-fine (x .sheet .tranches) j) (rise-fine (x .sheet .names) k),
+        refl,
+        λ k14. (
+          (eqb-false (natAbs (jump x l (x .sheet .tranches) k)) 0, ne-eqb (natAbs (jump x l (x .sheet .tranches) k)) 0),
+          refl,
+          λ k15.
+              (rise-fine (1_000_000 * natAbs (jump x l (x .sheet .tranches) k)) (natAbs (jump x l j k)), refl, λ k16. tt),
+        ),
+      )
+
+  pub forward-stands : (q : List ℕ) (i : ℕ) → Stands (forwardTests x g q i) (forwardOrder x g q i)
+  unfolding forwardTests
+  forward-stands q i = ten-stands (rowBad x g q) _ _ _ (row-lent-fine x g q) (λ k. k .size) (most-fine (x .sheet .steps) i, refl, λ k. tt)
+
+-- ---- what the rules of an order come to
+
+-- Of open: a sheet within limits, lists of the right length and a live number.
+pub record Opening (x : Brought) (g : List ℕ) (l : Rows) : Type 0 where
+  pub limits : Limits x
+  pub lent : LentFit x g l
+  pub live : Live g (x .number)
+
+-- Of back, value and hedge ratio: the walk is the sheet's too, and its rows are clean.
+pub record OnWay (x : Brought) (g : List ℕ) (w : Walk) (l : Rows) : Type 0 where
+  pub limits : Limits x
+  pub lent : LentFit x g l
+  pub live : Live g (x .number)
+  pub walk : OnWalk x w
+  pub clean : Clean (x .sheet) (w .position) l
+
+-- Of forward.
+pub record Forwarding (x : Brought) (g q : List ℕ) (i : ℕ) : Type 0 where
+  pub limits : Limits x
+  pub lent : ForwardFit x g q
+  pub live : Live g (x .number)
+  pub steps : i ≤ x .sheet .steps
+
+pub only-live : (g : List ℕ) (y : ℕ) → Unissued g y ⊎ Live g y → ¬ (Unissued g y) → Live g y
+only-live g y (inl u) n = absurd (n u)
+only-live g y (inr v) n = v
+
+pub live-issued : (g : List ℕ) (y : ℕ) → Live g y → ¬ (Unissued g y)
+live-issued g y v u = let e : _≡_ {A = ℕ} 0xFF 0xA5 = sym (u .byte) ∙ v .byte in omega arith
+
+module _ (x : Brought) (g : List ℕ) where
+  pub ten-holds : (K : Type 0) (m : Order) → (K → ListsFit x) → Holds (toTen x g K m) ↔ (Limits x × K × Live g (x .number) × Holds m)
+  ten-holds K m lists = (there, back)
+    where
+      there : Holds (toTen x g K m) → Limits x × K × Live g (x .number) × Holds m
+      there (a, (b, (c, (d, (e, (f, (h, (i, (u, (n, rest)))))))))) = (
+        record { pool = a; lists = lists b; recovery = c; attachments = d; hazards = e; discounts = f; accruals = h; coupons = i },
+        b,
+        only-live g (x .number) u n,
+        rest,
+      )
+
+      back : Limits x × K × Live g (x .number) × Holds m → Holds (toTen x g K m)
+      back (q, b, v, rest) =
+          (q .pool, (b, (q .recovery, (q .attachments, (q .hazards, (q .discounts, (q .accruals, (q .coupons, (inr v, (live-issued g (x .number) v, rest))))))))))
+
+  pub open-holds : (l : Rows) → Holds (openOrder x g l) ↔ Opening x g l
+  open-holds l =
+      Iff·trans (ten-holds (LentFit x g l) [] (λ k. k .lists))
+      (λ p. record { limits = p .0; lent = p .1; live = p .2 }, λ o. (o .limits, o .lent, o .live, tt))
+
+  pub twelve-holds : (w : Walk) (l : Rows) (m : Order) → Holds (toTwelve x g w l m) ↔ (OnWay x g w l × Holds m)
+  twelve-holds w l m =
+      Iff·trans (ten-holds (LentFit x g l) ((OnWalk x w, 11) ∷ (Clean (x .sheet) (w .position) l, 12) ∷ m) (λ k. k .lists)) (
+        λ p. (record { limits = p .0; lent = p .1; live = p .2; walk = p .3 .0; clean = p .3 .1 .0 }, p .3 .1 .1),
+        λ o. (o .0 .limits, o .0 .lent, o .0 .live, (o .0 .walk, (o .0 .clean, o .1))),
+      )
+
+  pub back-holds : (w : Walk) (l : Rows) (c : ℕ) → Holds (backOrder x g w l c) ↔ (OnWay x g w l × (c ≤ w .position))
+  back-holds w l c =
+      Iff·trans (twelve-holds w l ((c ≤ w .position, 13) ∷ [])) (λ p. (p .0, p .1 .0), λ o. (o .0, (o .1, tt)))
+
+  pub value-holds : (w : Walk) (l : Rows) (j k : ℕ) → Holds (valueOrder x g w l j k) ↔ (OnWay x g w l × (j ≤ x .sheet .tranches) × (k ≤ x .sheet .names))
+  value-holds w l j k =
+      Iff·trans (twelve-holds w l (((j ≤ x .sheet .tranches) × (k ≤ x .sheet .names), 14) ∷ []))
+      (λ p. (p .0, p .1 .0 .0, p .1 .0 .1), λ o. (o .0, ((o .1, o .2), tt)))
+
+  pub ratio-holds : (w : Walk) (l : Rows) (j k : ℕ) → Holds (ratioOrder x g w l j k)
+      ↔ (OnWay x g w l × (j ≤ x .sheet .tranches) × (k < x .sheet .names) × (¬ (natAbs (jump x l (x .sheet .tranches) k) ≡ 0))
+      × (natAbs (jump x l j k) < 1_000_000 * natAbs (jump x l (x .sheet .tranches) k)))
+  ratio-holds w l j k =
+      Iff·trans
+      (twelve-holds w l (((j ≤ x .sheet .tranches) × (k < x .sheet .names), 14) ∷ (¬ (natAbs (jump x l (x .sheet .tranches) k) ≡ 0), 15)
+      ∷ (natAbs (jump x l j k) < 1_000_000 * natAbs (jump x l (x .sheet .tranches) k), 16) ∷ []))
+      (λ p. (p .0, p .1 .0 .0, p .1 .0 .1, p .1 .1 .0, p .1 .1 .1 .0), λ o. (o .0, ((o .1, o .2), (o .3, (o .4, tt)))))
+
+  pub forward-holds : (q : List ℕ) (i : ℕ) → Holds (forwardOrder x g q i) ↔ Forwarding x g q i
+  forward-holds q i =
+      Iff·trans (ten-holds (ForwardFit x g q) ((i ≤ x .sheet .steps, 13) ∷ []) (λ k. k .lists))
+      (λ p. record { limits = p .0; lent = p .1; live = p .2; steps = p .3 .0 }, λ o. (o .limits, o .lent, o .live, (o .steps, tt)))

@@ -1,0 +1,117 @@
+-- Demand 3, of every list of calls: what is found of the last walk, and what a withdrawn number shows. Assumes nothing.
+use Prim.Native.Nat.{ℕ, _+_, _-_, _*_, _^_, _≤_}
+use mathlib.Core.Path.{_≡_, refl, sym, _∙_, ap, subst, subst₂}
+use mathlib.Core.Bool.{true}
+use mathlib.Core.List.{[], _∷_}
+use native.Mathlib.Omega.{arith}
+use native.Mathlib.Nat.{le-refl}
+use lib.ListN.{getD}
+use lib.IntN.{pos}
+use Rattle.cash.specs.Units.{B}
+use Rattle.cash.specs.Hedges.{netValue}
+use Rattle.cash.proofs.Nearness.{near-as}
+use Rattle.cash.proofs.Sums.{sum-cong}
+use Rattle.tree.specs.Sheet.{Sheet, D, A, spanning}
+use Rattle.tree.proofs.Statements.{distance, additive}
+use Rattle.rows.specs.Rows.{nodeIn}
+use Rattle.sheet.specs.Brought.{Brought}
+use Rattle.sheet.proofs.Limits.{within}
+use Rattle.walk.specs.Answers.{Said, accepted}
+use Rattle.walk.specs.Table.{valueOrder}
+use Rattle.walk.specs.Does.{says, Values}
+use Rattle.walk.specs.Engine.{Engine}
+use Rattle.walk.specs.Lists.{same, lent, value, went, turn, Run, end, history, answers}
+use Rattle.walk.specs.Promises.{Walked, heldD, heldA, heldWorth, Shown, Found, Owed}
+use Rattle.walk.specs.Promise.{Rules}
+use Rattle.walk.proofs.Orders.{Tells, value-holds, refuses, breaks-ten}
+use Rattle.walk.proofs.Steps.{Holding}
+use Rattle.walk.proofs.Invariant.{Stands, known}
+
+-- A list that walked h steps back on x: how its walk stands, and its rows.
+pub record Place (e : Engine) (u : Run) (x : Brought) (h : ℕ) : Type 0 where
+  pub stood : Stands x (history e u) (end e u)
+  pub place : end e u .walk .position + h ≡ x .sheet .steps
+  pub position : end e u .walk .position ≡ x .sheet .steps - h
+  pub rows : Holding (x .sheet) h (x .sheet .steps - h) (end e u .rows)
+
+pub placed : (e : Engine) → Rules e → (u : Run) (y h : ℕ) → Walked e u y h → Place e u (u .book .sheet y) h
+placed e rules u y h w =
+    let x = u .book .sheet y in
+    let q : Stands x (history e u) (end e u) = known e rules u .stood y (w .opened) in
+    let p : end e u .walk .position + h ≡ x .sheet .steps = subst (λ n. end e u .walk .position + n ≡ x .sheet .steps) (w .walked) (q .place) in
+    let i : end e u .walk .position ≡ x .sheet .steps - h = omega arith in
+    record {
+      stood = q;
+      place = p;
+      position = i;
+      rows = subst₂ (λ a b. Holding (x .sheet) a b (end e u .rows)) (w .walked) i (q .held (w .own));
+    }
+
+module _ (e : Engine) (rules : Rules e) (u : Run) (y h : ℕ) (w : Walked e u y h) (x : Sheet) (s : u .book .sheet y .sheet ≡ x) (j k : ℕ) (l : j ≤ x .tranches) (m : k ≤ x .names) where
+  holding : Holding x h (x .steps - h) (end e u .rows)
+  holding = subst (λ z. Holding z h (z .steps - h) (end e u .rows)) s (placed e rules u y h w .rows)
+
+  pub held-D : heldD e u x j k ≡ D x j h (x .steps - h) k
+  unfolding heldD
+  held-D = holding .default j k l m
+
+  pub held-A : heldA e u x j k ≡ A x j h (x .steps - h) k
+  unfolding heldA
+  held-A = holding .premium j k l m
+
+module _ (e : Engine) (rules : Rules e) (u : Run) (z h : ℕ) (w : Walked e u z h) where
+  shown : (y j k : ℕ) → accepted (answers e u (value y same j k)) ≡ true → Shown e u (u .book .sheet z) y j k
+  unfolding turn went heldD heldA heldWorth
+  shown y j k t =
+      let r : Values (u .book .sheet y) (end e u .register) (end e u .walk) (end e u .rows) j k
+      (e .value (u .book .sheet y) (end e u .register) (end e u .walk) (end e u .rows) j k)
+      = rules .value (u .book .sheet y) (end e u .register) (end e u .walk) (end e u .rows) j k in
+      let a : Tells (u .book .sheet y) (end e u .register) (end e u .walk) (end e u .rows) j k = value-holds _ _ _ _ _ j k (r .judged) t in
+      let number : y ≡ z = sym (u .book .bears y) ∙ sym (a .walk .number) ∙ placed e rules u z h w .stood .number ∙ u .book .bears z in
+      let b : u .book .sheet y ≡ u .book .sheet z = ap (u .book .sheet) number in
+      record {
+        sheet = b;
+        tranche = subst (λ x. j ≤ x .sheet .tranches) b (a .tranche);
+        count = subst (λ x. k ≤ x .sheet .names) b (a .count);
+        said = r .does t .said ∙ ap (λ x. worthOf x) b;
+      }
+    where
+      worthOf : Brought → Said
+      worthOf x =
+          says (pos (nodeIn (x .sheet) (end e u .rows .defaults) j k) ∷ pos (nodeIn (x .sheet) (end e u .rows .premiums) j k)
+          ∷ netValue (nodeIn (x .sheet) (end e u .rows .defaults) j k) (getD (x .coupons) j 0) (nodeIn (x .sheet) (end e u .rows .premiums) j k) ∷ [])
+
+  found : Found e u (u .book .sheet z) h
+  unfolding spanning
+  found =
+      let x = u .book .sheet z in
+      let i = x .sheet .steps - h in
+      let p = placed e rules u z h w in
+      let inside = within x (p .stood .limits) in
+      record {
+        steps = omega (arith, p .place);
+        walk = λ t. record { «open» = p .stood .opened t; number = p .stood .number t; position = p .position t };
+        default-near = λ j k l m. near-as (distance (x .sheet) inside .default j h i k m) (le-refl _) (ap (λ d. d * B ^ (2 * h + 1)) (sym (held-D e rules u z h w (x .sheet) refl j k l m))) refl;
+        premium-near = λ j k l m. near-as (distance (x .sheet) inside .premium j h i k m) (le-refl _) (ap (λ d. 2 * (d * B ^ (2 * h + 1))) (sym (held-A e rules u z h w (x .sheet) refl j k l m))) refl;
+        shown = shown;
+        defaults-add = λ v y s wy k m.
+            near-as (additive (x .sheet) inside .default h i k m) (le-refl _)
+            (sum-cong (x .sheet .tranches) _ _ (λ j l. sym (held-D e rules u z h w (x .sheet) refl j k (omega arith) m)))
+            (sym (held-D e rules v y h wy (spanning (x .sheet)) s 0 k (omega arith) m));
+        premiums-add = λ v y s wy k m.
+            near-as (additive (x .sheet) inside .premium h i k m) (le-refl _)
+            (ap (λ d. 2 * d) (sum-cong (x .sheet .tranches) _ _ (λ j l. sym (held-A e rules u z h w (x .sheet) refl j k (omega arith) m))))
+            (ap (λ d. 2 * d) (sym (held-A e rules v y h wy (spanning (x .sheet)) s 0 k (omega arith) m)));
+      }
+
+pub owed : (e : Engine) → Rules e → (u : Run) → Owed e u
+unfolding turn went
+owed e rules u =
+    record {
+      found = found e rules u;
+      hidden = λ y g t j k.
+          let x = u .book .sheet y in
+          let r = rules .value x (end e u .register) (end e u .walk) (lent t (end e u .rows)) j k in
+          let zero : getD (end e u .register) (x .number) 0 ≡ 0 = rw (u .book .bears y) (known e rules u .out y g) in
+          refuses 9 (valueOrder x (end e u .register) (end e u .walk) (lent t (end e u .rows)) j k) _ (r .judged) (breaks-ten x (end e u .register) _ _ zero) .0;
+    }

@@ -1,0 +1,211 @@
+-- A withdrawal that returned holds for ever, wherever the power fails, and a write only clears bits. Assumes nothing.
+use Prim.Native.Nat.{ℕ, suc, _≤_, _<_}
+use mathlib.Core.Path.{_≡_, refl, sym, _∙_, ap, subst}
+use mathlib.Core.Bool.{Bool, true, false, cond, _&&_, _||_, false≢true}
+use mathlib.Core.List.{List, [], _∷_}
+use mathlib.Core.Logic.{_≢_, _⊎_, inl, inr}
+use native.Mathlib.Omega.{arith}
+use native.Mathlib.Decide.{decLt}
+use lib.ListN.{length, getD, set, length-set, List·getD-eq-default}
+use lib.Seq.{getD-set-same}
+use lib.Dec.{eqb}
+use borrow.Author.Tests.{eqb-true}
+use Rattle.register.specs.Cut.{mayBeLeft}
+use Rattle.sheet.specs.Brought.{Brought}
+use Rattle.walk.specs.declared.Walk.{Walk}
+use Rattle.walk.specs.Answers.{Rows, accepted}
+use Rattle.walk.specs.Table.{Order, Judges, issueOrder, withdrawOrder, openOrder, backOrder, valueOrder, ratioOrder, forwardOrder}
+use Rattle.walk.specs.Does.{Entered, Moved, Kept, Writes}
+use Rattle.walk.specs.Engine.{Engine}
+use Rattle.walk.specs.Lists.{lent, Call, issue, withdraw, opening, back, value, State, entered, begun, went, turn, History, noted, nothing}
+use Rattle.walk.specs.Promises.{Event, returned, cutIn, found, leaves, withdrew, afterAll, everWithdrew, Early, Shut, Forever, Clears}
+use Rattle.walk.specs.Promise.{Rules}
+use Rattle.walk.proofs.Orders.{Breaks, refuses, issue-holds, withdraw-holds, breaks-ten, breaks-issue, breaks-withdraw}
+use Rattle.walk.proofs.Invariant.{writes-zero, zero-stays, unissued-some, live-some, or-cases, both}
+
+-- ---- what a write leaves
+
+cut-size : (b : Bool) (g : List ℕ) (y v : ℕ) → length (cond b (set g y v) g) ≡ length g
+cut-size true g y v = length-set g y v
+cut-size false g y v = refl
+
+cut-zero : (b : Bool) (g : List ℕ) (y v : ℕ) → (b ≡ true → getD g y 0 ≢ 0) → (z : ℕ) → getD g z 0 ≡ 0 → getD (cond b (set g y v) g) z 0 ≡ 0
+cut-zero true g y v h z e = zero-stays g y z v (h refl) e
+cut-zero false g y v h z e = e
+
+-- A call that returned writes as a cut that finds the byte written.
+written : (g : List ℕ) (y v : ℕ) (o : Entered) → Writes g y v o → o .register ≡ cond (accepted (o .said)) (set g y v) g
+written g y v o r = go (accepted (o .said)) refl
+  where
+    go : (b : Bool) → accepted (o .said) ≡ b → o .register ≡ cond (accepted (o .said)) (set g y v) g
+    go true e = rw e (r .does e .1)
+    go false e = rw e (r .leaves e)
+
+module _ (e : Engine) (rules : Rules e) where
+  issue-over : (g : List ℕ) (y : ℕ) → accepted (e .issue g y .said) ≡ true → getD g y 0 ≢ 0
+  issue-over g y a = unissued-some g y (issue-holds g y (e .issue g y .said) (rules .issue g y .judged) a)
+
+  withdraw-over : (g : List ℕ) (y : ℕ) → accepted (e .withdraw g y .said) ≡ true → getD g y 0 ≢ 0
+  withdraw-over g y a = live-some g y (withdraw-holds g y (e .withdraw g y .said) (rules .withdraw g y .judged) a)
+
+  found-size : (g : List ℕ) (c : Call) (b : ℕ) → length (found e g c b) ≡ length g
+  unfolding found
+  found-size g (issue y) b = cut-size (accepted (e .issue g y .said)) g y b
+  found-size g (withdraw y) b = cut-size (accepted (e .withdraw g y .said)) g y b
+  found-size g (opening y l) b = refl
+  found-size g (back y t c) b = refl
+  found-size g (value y t j k) b = refl
+
+  found-zero : (g : List ℕ) (c : Call) (b z : ℕ) → getD g z 0 ≡ 0 → getD (found e g c b) z 0 ≡ 0
+  unfolding found
+  found-zero g (issue y) b z p = cut-zero (accepted (e .issue g y .said)) g y b (issue-over g y) z p
+  found-zero g (withdraw y) b z p = cut-zero (accepted (e .withdraw g y .said)) g y b (withdraw-over g y) z p
+  found-zero g (opening y l) b z p = p
+  found-zero g (back y t c) b z p = p
+  found-zero g (value y t j k) b z p = p
+
+  -- The byte that a call writes where it returns.
+  abbrev byteOf : Call → ℕ
+  byteOf (issue y) = 0xA5
+  byteOf (withdraw y) = 0x00
+  byteOf (opening y l) = 0
+  byteOf (back y t c) = 0
+  byteOf (value y t j k) = 0
+
+  turn-writes : (book : ℕ → Brought) (s : State) (c : Call) → turn e book s c .state .register ≡ found e (s .register) c (byteOf c)
+  unfolding turn entered begun went found
+  turn-writes book s (issue y) = written (s .register) y 0xA5 (e .issue (s .register) y) (rules .issue (s .register) y .writes)
+  turn-writes book s (withdraw y) = written (s .register) y 0x00 (e .withdraw (s .register) y) (rules .withdraw (s .register) y .writes)
+  turn-writes book s (opening y l) = refl
+  turn-writes book s (back y t c) = refl
+  turn-writes book s (value y t j k) = refl
+
+  leaves-size : (s : State) (v : Event) → length (leaves e s v .register) ≡ length (s .register)
+  unfolding leaves
+  leaves-size s (returned k c) = ap length (turn-writes (k .sheet) s c) ∙ found-size (s .register) c (byteOf c)
+  leaves-size s (cutIn c b w m) = found-size (s .register) c b
+
+  leaves-zero : (s : State) (v : Event) (z : ℕ) → getD (s .register) z 0 ≡ 0 → getD (leaves e s v .register) z 0 ≡ 0
+  unfolding leaves
+  leaves-zero s (returned k c) z p = ap (λ g. getD g z 0) (turn-writes (k .sheet) s c) ∙ found-zero (s .register) c (byteOf c) z p
+  leaves-zero s (cutIn c b w m) z p = found-zero (s .register) c b z p
+
+  -- ---- the withdrawal itself
+
+  gone-zero : (g : List ℕ) (y z : ℕ) → (accepted (e .withdraw g y .said) && eqb z y || false) ≡ true → getD (e .withdraw g y .register) z 0 ≡ 0
+  gone-zero g y z p = go (or-cases (accepted (e .withdraw g y .said) && eqb z y) false p)
+    where
+      go : ((accepted (e .withdraw g y .said) && eqb z y) ≡ true) ⊎ (false ≡ true) → getD (e .withdraw g y .register) z 0 ≡ 0
+      go (inl q) =
+          let b = both (accepted (e .withdraw g y .said)) (eqb z y) q in
+          ap (λ r. getD r z 0) (rules .withdraw g y .writes .does (b .0) .1) ∙ writes-zero g y z (inl (eqb-true z y (b .1)))
+      go (inr q) = absurd (false≢true q)
+
+  open-none : (a : Bool) (k : History) (z : ℕ) → k .gone z ≡ false → cond a k nothing .gone z ≡ true → ⊥
+  open-none true k z p q = false≢true (sym p ∙ q)
+  open-none false k z p q = false≢true q
+
+  withdrew-zero : (s : State) (v : Event) (z : ℕ) → withdrew e s v z ≡ true → getD (leaves e s v .register) z 0 ≡ 0
+  unfolding withdrew leaves turn entered begun went noted
+  withdrew-zero s (returned k (issue y)) z p = absurd (false≢true p)
+  withdrew-zero s (returned k (withdraw y)) z p = gone-zero (s .register) y z p
+  withdrew-zero s (returned k (opening y t)) z p = absurd (open-none (accepted (e .opening (k .sheet y) (s .register) (s .walk) (lent t (s .rows)) .said)) _ z refl p)
+  withdrew-zero s (returned k (back y t c)) z p = absurd (false≢true p)
+  withdrew-zero s (returned k (value y t i j)) z p = absurd (false≢true p)
+  withdrew-zero s (cutIn c b w m) z p = absurd (false≢true p)
+
+  -- ---- every list of events
+
+  all-size : (l : List Event) (s : State) → length (afterAll e s l .register) ≡ length (s .register)
+  unfolding afterAll
+  all-size [] s = refl
+  all-size (v ∷ l) s = all-size l (leaves e s v) ∙ leaves-size s v
+
+  all-zero : (l : List Event) (s : State) (z : ℕ) → getD (s .register) z 0 ≡ 0 → getD (afterAll e s l .register) z 0 ≡ 0
+  unfolding afterAll
+  all-zero [] s z p = p
+  all-zero (v ∷ l) s z p = all-zero l (leaves e s v) z (leaves-zero s v z p)
+
+  all-gone : (l : List Event) (s : State) (z : ℕ) → everWithdrew e s l z ≡ true → getD (afterAll e s l .register) z 0 ≡ 0
+  unfolding afterAll everWithdrew
+  all-gone [] s z p = absurd (false≢true p)
+  all-gone (v ∷ l) s z p = go (all-gone l (leaves e s v) z) (or-cases (withdrew e s v z) (everWithdrew e (leaves e s v) l z) p)
+    where
+      go : (everWithdrew e (leaves e s v) l z ≡ true → getD (afterAll e (leaves e s v) l .register) z 0 ≡ 0) →
+          (withdrew e s v z ≡ true) ⊎ (everWithdrew e (leaves e s v) l z ≡ true) → getD (afterAll e (leaves e s v) l .register) z 0 ≡ 0
+      go later (inl q) = all-zero l (leaves e s v) z (withdrew-zero s v z q)
+      go later (inr q) = later q
+
+  -- ---- refused for ever
+
+  shut-write : (l : Order) (g : List ℕ) (y v : ℕ) (o : Entered) → Judges l (o .said) → Breaks 9 l → Writes g y v o → Early (o .said) × (o .register ≡ g)
+  shut-write l g y v o j b r =
+      let a = refuses 9 l (o .said) j b in
+      (record { refused = a .0; early = a .1 }, r .leaves (a .0))
+
+  shut-move : (l : Order) (w : Walk) (m : Rows) (o : Moved) → Judges l (o .said) → Breaks 9 l → Kept w m o → Early (o .said) × (o .walk ≡ w) × (o .rows ≡ m)
+  shut-move l w m o j b k =
+      let a = refuses 9 l (o .said) j b in
+      let r = k (a .0) in
+      (record { refused = a .0; early = a .1 }, r .0, r .1)
+
+  shut : (g : List ℕ) (y : ℕ) → getD g y 0 ≡ 0 → Shut e g y
+  shut g y z =
+      record {
+        issue = shut-write (issueOrder g y) g y 0xA5 (e .issue g y) (rules .issue g y .judged) (breaks-issue g y z) (rules .issue g y .writes);
+        withdraw = shut-write (withdrawOrder g y) g y 0x00 (e .withdraw g y) (rules .withdraw g y .judged) (breaks-withdraw g y z) (rules .withdraw g y .writes);
+        opening = λ x w l b.
+            let r = rules .opening x g w l in
+            shut-move (openOrder x g l) w l (e .opening x g w l) (r .judged) (breaks-ten x g _ _ (rw b z)) (r .leaves);
+        back = λ x w l c b.
+            let r = rules .back x g w l c in
+            shut-move (backOrder x g w l c) w l (e .back x g w l c) (r .judged) (breaks-ten x g _ _ (rw b z)) (r .leaves);
+        value = λ x w l j k b.
+            let r = rules .value x g w l j k in
+            shut-move (valueOrder x g w l j k) w l (e .value x g w l j k) (r .judged) (breaks-ten x g _ _ (rw b z)) (r .leaves);
+        ratio = λ x w l j k b.
+            let r = rules .ratio x g w l j k in
+            shut-move (ratioOrder x g w l j k) w l (e .ratio x g w l j k) (r .judged) (breaks-ten x g _ _ (rw b z)) (r .leaves);
+        forward = λ x q i b.
+            let r = rules .forward x g q i in
+            let a = refuses 9 (forwardOrder x g q i) (e .forward x g q i .said) (r .judged) (breaks-ten x g _ _ (rw b z)) in
+            (record { refused = a .0; early = a .1 }, r .leaves (a .0));
+      }
+
+  pub power : (start : State) (l : List Event) → Forever e start l
+  power start l = record { shut = λ y p. shut (afterAll e start l .register) y (all-gone l start y p); whole = all-size l start }
+
+-- ---- a write only clears bits
+
+inside : (g : List ℕ) (y v : ℕ) → getD g y 0 ≡ suc v → y < length g
+inside g y v p = go (decLt y (length g))
+  where
+    go : Dec (y < length g) → y < length g
+    go (yes m) = m
+    go (no m) =
+        let past : length g ≤ y = omega arith in
+        absurd (omega (arith, sym (List·getD-eq-default g 0 past) ∙ p))
+
+new-byte : (r g : List ℕ) (y v w : ℕ) → r ≡ set g y v → getD g y 0 ≡ suc w → getD r y 0 ≡ v
+new-byte r g y v w p q = ap (λ s. getD s y 0) p ∙ getD-set-same g y v 0 (inside g y w q)
+
+never-all : (old new b : ℕ) → old ≡ 0xA5 → new ≡ 0x00 → mayBeLeft old new b ≡ true → b ≢ 0xFF
+never-all old new b p q m f =
+    false≢true (subst (λ z. mayBeLeft 0xA5 0x00 z ≡ true) f (subst (λ z. mayBeLeft 0xA5 z b ≡ true) q (subst (λ z. mayBeLeft z new b ≡ true) p m)))
+
+pub clears : (e : Engine) → Rules e → (g : List ℕ) (y : ℕ) → Clears e g y
+clears e rules g y =
+    record {
+      issue = λ a.
+          let o : getD g y 0 ≡ 0xFF = issue-holds g y (e .issue g y .said) (rules .issue g y .judged) a .byte in
+          let n : getD (e .issue g y .register) y 0 ≡ 0xA5 = new-byte _ g y 0xA5 0xFE (rules .issue g y .writes .does a .1) o in
+          rw (n, o);
+      withdraw = λ a.
+          let o : getD g y 0 ≡ 0xA5 = withdraw-holds g y (e .withdraw g y .said) (rules .withdraw g y .judged) a .byte in
+          let n : getD (e .withdraw g y .register) y 0 ≡ 0x00 = new-byte _ g y 0x00 0xA4 (rules .withdraw g y .writes .does a .1) o in
+          rw (n, o);
+      withdraw-cut = λ a b l m.
+          let o : getD g y 0 ≡ 0xA5 = withdraw-holds g y (e .withdraw g y .said) (rules .withdraw g y .judged) a .byte in
+          let n : getD (e .withdraw g y .register) y 0 ≡ 0x00 = new-byte _ g y 0x00 0xA4 (rules .withdraw g y .writes .does a .1) o in
+          never-all _ _ b o n m;
+    }

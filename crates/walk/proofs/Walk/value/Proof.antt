@@ -1,0 +1,92 @@
+-- By the checks 1 to 12, then by the node. Assumes nothing.
+use borrow.Author.Needs.{needs}
+use mathlib.Core.Path.{_≡_, sym, _∙_, ap}
+use mathlib.Core.List.{[]}
+use native.Mathlib.Omega.{arith}
+use Rattle.sheet.specs.Brought.{Brought, brought}
+use Rattle.sheet.specs.declared.Found.the-variants.{Fine}
+use Rattle.sheet.specs.Tests.{first}
+use Rattle.walk.specs.Answers.{Rows}
+use Rattle.walk.specs.Calls.{rowsOf, twelveTests}
+use borrow.Author.Tests.{lt-ltb, le-ltb}
+use Rattle.walk.specs.Calls.{worth}
+use Rattle.walk.proofs.Ends.{on-way, readable, readable-told, worth-told, value-not, value-off, value-done, off-tranche, off-count}
+use Rattle.walk.proofs.Tied.{value-promised}
+use Rattle.walk.proofs.Walk.value.Statement.{statement}
+use Rattle.walk.proofs.Walk.value.Tie as tie
+
+-- the sheet and the rows that are lent
+abbrev sheet : tie.Start → Brought
+sheet s = brought (s .args .pool) (s .args .attachments .now) (s .args .hazards .now) (s .args .discounts .now) (s .args .accruals .now) (s .args .coupons .now)
+
+abbrev rows : tie.Start → Rows
+rows s = rowsOf (s .args .defaults .now) (s .args .premiums .now)
+
+abbrev start : tie.After-to-twelve → tie.Start
+start p = p .before .before .before .before .before .before .before .before .before
+
+to-twelve-requires : tie.Need-to-twelve-requires
+to-twelve-requires c κs = search needs
+
+enum-known-found : tie.Need-enum-known-found
+enum-known-found c = search needs
+
+returns : tie.Need-returns
+returns c =
+    let p = c .before .before .before in
+    let s = start p in
+    let e = value-not (sheet s) (s .args .register .now) (s .args .self) (rows s) (sym (p .to-twelve .ensures) ∙ c .before .found .given .1) (s .args .tranche) (s .args .count) in
+    (e, value-promised _ _ _ _ _ _ e)
+
+enum-told : tie.Need-enum-told
+enum-told c = search needs
+
+-- the first twelve checks found nothing
+passed : (c : tie.After-enum-told) → let s = start (c .before .before) in first (twelveTests (sheet s) (s .args .register .now) (s .args .self) (rows s) []) ≡ Fine
+passed c = sym (c .before .before .to-twelve .ensures) ∙ c .enum-told .given .1
+
+returns-2 : tie.Need-returns-2
+returns-2 c =
+    let t = c .before .before in
+    let s = start (t .before .before) in
+    let e = value-off (sheet s) (s .args .register .now) (s .args .self) (rows s) (passed t) (s .args .tranche) (s .args .count) (off-tranche _ _ (lt-ltb _ _ (c .if1 .taken))) in
+    (e, value-promised _ _ _ _ _ _ e)
+
+returns-3 : tie.Need-returns-3
+returns-3 c =
+    let i = c .before .before in
+    let t = i .before .before in
+    let s = start (t .before .before) in
+    let e = value-off (sheet s) (s .args .register .now) (s .args .self) (rows s) (passed t) (s .args .tranche) (s .args .count) (off-count _ _ (le-ltb _ _ (i .if1 .left)) (lt-ltb _ _ (c .if2 .taken))) in
+    (e, value-promised _ _ _ _ _ _ e)
+
+worth-at-requires : tie.Need-worth-at-requires
+worth-at-requires c κs =
+    let i = c .before .before in
+    let t = i .before .before in
+    let s = start (t .before .before) in
+    readable-told _ _ _ _ _ _ _ _ _ []
+    (readable (sheet s) (s .args .register .now) (s .args .self) (rows s) (on-way _ _ _ _ (passed t)) (s .args .tranche) (s .args .count) (i .if1 .left) (c .if2 .left))
+
+returns-4 : tie.Need-returns-4
+returns-4 c =
+    let i = c .before .before .before in
+    let t = i .before .before in
+    let s = start (t .before .before) in
+    let r = c .worth-at .ensures ∙ worth-told (s .args .pool) (s .args .attachments .now) (s .args .hazards .now) (s .args .discounts .now) (s .args .accruals .now) (s .args .coupons .now) (rows s) (s .args .tranche) (s .args .count) in
+    let e = (λ j. record { answer = r j; walk = s .args .self; rows = rows s })
+    ∙ value-done (sheet s) (s .args .register .now) (s .args .self) (rows s) (passed t) (s .args .tranche) (s .args .count) (i .if1 .left) (c .before .if2 .left) in
+    (e, value-promised _ _ _ _ _ _ e)
+
+pub value-spec : {M : Type 1} → statement M
+value-spec =
+    tie.close
+    (tie.spec
+    to-twelve-requires
+    enum-known-found
+    returns
+    enum-told
+    returns-2
+    returns-3
+    worth-at-requires
+    returns-4)

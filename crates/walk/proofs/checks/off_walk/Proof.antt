@@ -1,0 +1,18 @@
+-- Assumes nothing.
+use borrow.Author.Needs.{needs}
+use borrow.Author.Tests.{not-true, not-false}
+use Rattle.walk.proofs.Firsts.{walk-closed, walk-other, walk-steps}
+use Rattle.walk.proofs.checks.off_walk.Statement.{statement}
+use Rattle.walk.proofs.checks.off_walk.Tie as tie
+
+returns : tie.Need-returns
+returns c = walk-closed _ _ (not-true _ (c .if1 .taken))
+
+returns-2 : tie.Need-returns-2
+returns-2 c = walk-other _ _ (not-false _ (c .before .before .before .if1 .left)) (c .if2 .taken)
+
+returns-3 : tie.Need-returns-3
+returns-3 c = walk-steps _ _ (not-false _ (c .before .before .before .before .before .if1 .left)) (c .before .before .if2 .left)
+
+pub off-walk-spec : {M : Type 1} → statement M
+off-walk-spec = tie.close (tie.spec returns returns-2 returns-3)

@@ -1,0 +1,22 @@
+-- Assumes nothing.
+use borrow.Author.Needs.{needs}
+use native.Mathlib.Omega.{arith}
+use Rattle.sheet.proofs.Meanings.{pool-fine}
+use Rattle.walk.proofs.Lengths.{row-register, row-row}
+use Rattle.walk.proofs.checks.row_differs.Statement.{statement}
+use Rattle.walk.proofs.checks.row_differs.Tie as tie
+
+returns : tie.Need-returns
+returns c e = absurd (let p = pool-fine _ .0 e in omega arith)
+
+returns-2 : tie.Need-returns-2
+returns-2 c e = row-register _ _ _ (c .if2 .taken)
+
+add-result : tie.Need-add-result
+add-result c = search needs
+
+returns-3 : tie.Need-returns-3
+returns-3 c e = row-row _ _ _ (search needs)
+
+pub row-differs-spec : {M : Type 1} → statement M
+row-differs-spec = tie.close (tie.spec returns returns-2 add-result returns-3)

@@ -1,0 +1,104 @@
+-- The first ten checks, then the walk, then the rows. Assumes nothing.
+use borrow.Author.Needs.{needs}
+use mathlib.Core.Path.{_≡_, sym, _∙_}
+use mathlib.Core.Bool.{Bool, true, false}
+use mathlib.Core.List.{[]}
+use Rattle.sheet.specs.Brought.{Brought, brought}
+use Rattle.sheet.specs.declared.Found.the-variants.{Fine}
+use Rattle.sheet.specs.Tests.{first, poolBad}
+use Rattle.walk.specs.Answers.{Rows}
+use Rattle.walk.specs.Calls.{rowsOf, rowsBad, walkBad, tenTests}
+use Rattle.walk.proofs.Lengths.{RowsFit, rows-told, rows-fit}
+use Rattle.walk.proofs.Firsts.{walk-told, twelve-ten, twelve-walk, twelve-over, twelve-clean}
+use Rattle.walk.proofs.Passed.{Inside, inside-by}
+use Rattle.walk.proofs.Bounds.{rows-limits, row-size}
+use Rattle.walk.proofs.checks.to_twelve.Statement.{statement}
+use Rattle.walk.proofs.checks.to_twelve.Tie as tie
+
+-- the sheet and the rows that are lent
+abbrev sheet : tie.Start → Brought
+sheet s = brought (s .args .pool) (s .args .attachments .now) (s .args .hazards .now) (s .args .discounts .now) (s .args .accruals .now) (s .args .coupons .now)
+
+abbrev rows : tie.Start → Rows
+rows s = rowsOf (s .args .defaults .now) (s .args .premiums .now)
+
+abbrev start : tie.After-to-ten → tie.Start
+start p = p .before .before .before .before .before .before .before .before .before .before
+
+told : (p : tie.After-to-ten) → poolBad (sheet (start p) .sheet) ≡ false → p .before .rows-differ .result ≡ rowsBad (sheet (start p)) (start p .args .register .now) (rows (start p))
+told p = rows-told _ _ _ _ _ _ _ _ (p .before .rows-differ .ensures)
+
+rows-differ-requires : tie.Need-rows-differ-requires
+rows-differ-requires c κs = search needs
+
+to-ten-requires : tie.Need-to-ten-requires
+to-ten-requires c κs = search needs
+
+enum-known-found : tie.Need-enum-known-found
+enum-known-found c = search needs
+
+returns : tie.Need-returns
+returns c =
+    let p = c .before .before .before in
+    let s = start p in
+    sym (twelve-ten (sheet s) (s .args .register .now) (s .args .walk) (rows s) _ (told p) (sym (p .to-ten .ensures) ∙ c .before .found .given .1))
+
+enum-told : tie.Need-enum-told
+enum-told c = search needs
+
+-- the first ten checks found nothing
+ten : (c : tie.After-enum-told) → let p = c .before .before in first (tenTests (sheet (start p)) (start p .args .register .now) (p .before .rows-differ .result) []) ≡ Fine
+ten c = sym (c .before .before .to-ten .ensures) ∙ c .enum-told .given .1
+
+inside : (c : tie.After-enum-told) → let s = start (c .before .before) in Inside (sheet s) (rowsBad (sheet s) (s .args .register .now) (rows s))
+inside c = let p = c .before .before in inside-by _ _ _ _ [] (told p) (ten c)
+
+fit : (c : tie.After-enum-told) → let s = start (c .before .before) in RowsFit (sheet s) (s .args .register .now) (rows s)
+fit c = let s = start (c .before .before) in rows-fit (sheet s) (s .args .register .now) (rows s) (inside c .same)
+
+off-walk-requires : tie.Need-off-walk-requires
+off-walk-requires c κs = search needs
+
+off : (c : tie.After-off-walk) → let s = start (c .before .before .before) in c .off-walk .result ≡ walkBad (sheet s) (s .args .walk)
+off c = walk-told _ _ _ _ _ _ _ (c .off-walk .ensures)
+
+returns-2 : tie.Need-returns-2
+returns-2 c =
+    let e = c .before .before in
+    let s = start (e .before .before) in
+    sym (twelve-walk (sheet s) (s .args .register .now) (s .args .walk) (rows s) _ (told (e .before .before)) (ten e) (sym (off (c .before)) ∙ c .if1 .taken))
+
+is-soiled-requires : tie.Need-is-soiled-requires
+is-soiled-requires c κs =
+    let e = c .before .before in
+    let s = start (e .before .before) in
+    (rows-limits (sheet s) (inside e .limits), (row-size (sheet s .sheet) (fit e .defaults), row-size (sheet s .sheet) (fit e .premiums)))
+
+returns-3 : tie.Need-returns-3
+returns-3 c =
+    let w = c .before .before in
+    let e = w .before .before in
+    let s = start (e .before .before) in
+    sym (twelve-over (sheet s) (s .args .register .now) (s .args .walk) (rows s) _ (told (e .before .before)) (ten e) (sym (off (w .before)) ∙ w .if1 .left) (sym (c .before .is-soiled .ensures) ∙ c .if2 .taken))
+
+returns-4 : tie.Need-returns-4
+returns-4 c =
+    let w = c .before .before in
+    let e = w .before .before in
+    let s = start (e .before .before) in
+    sym (twelve-clean (sheet s) (s .args .register .now) (s .args .walk) (rows s) _ (told (e .before .before)) (ten e) (sym (off (w .before)) ∙ w .if1 .left) (sym (c .before .is-soiled .ensures) ∙ c .if2 .left))
+
+pub to-twelve-spec : {M : Type 1} → statement M
+to-twelve-spec =
+    tie.close
+    (tie.spec
+    rows-differ-requires
+    to-ten-requires
+    enum-known-found
+    returns
+    enum-told
+    off-walk-requires
+    returns-2
+    is-soiled-requires
+    returns-3
+    returns-4)

@@ -1,0 +1,71 @@
+-- Assumes nothing.
+use borrow.Author.Needs.{needs}
+use mathlib.Core.Path.{_≡_, sym, _∙_, ap}
+use Prim.Native.Nat.{ℕ, _+_, _*_, _≤_, _<_}
+use native.Mathlib.Omega.{arith}
+use lib.ListN.{length, getD}
+use Rattle.rows.specs.Limits.{bare}
+use Rattle.rows.specs.Rows.{nodeIn}
+use Rattle.walk.specs.Table.{nodeOf}
+use Rattle.walk.proofs.Bounds.{place-below, size-few, node-place}
+use Rattle.walk.proofs.figures.node_at.Statement.{statement}
+use Rattle.walk.proofs.figures.node_at.Tie as tie
+
+-- where the node stands
+abbrev place : tie.Start → ℕ
+place s = s .args .tranche * (s .args .pool .names + 1) + s .args .count
+
+below : (s : tie.Start) → place s < (s .args .pool .tranches + 1) * (s .args .pool .names + 1)
+below s = place-below (s .args .tranche) (s .args .count) (s .args .pool .tranches) (s .args .pool .names) (s .pre .1 .0 .0) (s .pre .1 .0 .1)
+
+few : (s : tie.Start) → (s .args .pool .tranches + 1) * (s .args .pool .names + 1) ≤ 1134
+few s = size-few (s .args .pool .tranches) (s .args .pool .names) (s .pre .0 .tranches-most) (s .pre .0 .names-most)
+
+add-place : tie.Need-add-place
+add-place c = search needs
+
+mul-place : tie.Need-mul-place
+mul-place c = let s = c .before .before .before .before in omega (arith, below s, few s)
+
+add-place-2 : tie.Need-add-place-2
+add-place-2 c = let s = c .before .before .before .before in omega (arith, below s, few s)
+
+loss-at-requires : tie.Need-loss-at-requires
+loss-at-requires c κs = search needs
+
+mul-t8 : tie.Need-mul-t8
+mul-t8 c = let s = c .before .before .before .before .before in omega (arith, below s, few s)
+
+shared-slice-read-t12 : tie.Need-shared-slice-read-t12
+shared-slice-read-t12 c = let s = c .before .before .before .before .before .before in omega (arith, below s, s .pre .1 .1 .0)
+
+mul-t9 : tie.Need-mul-t9
+mul-t9 c = let s = c .before .before .before .before .before .before in omega (arith, below s, few s)
+
+shared-slice-read-t14 : tie.Need-shared-slice-read-t14
+shared-slice-read-t14 c = let s = c .before .before .before .before .before .before .before in omega (arith, below s, s .pre .1 .1 .1)
+
+returns : tie.Need-returns
+unfolding nodeOf
+returns c =
+    let s = c .before .before .before .before .before .before .before in
+    let x = bare (s .args .pool) (s .args .attachments .now) in
+    λ i. record {
+      loss = c .before .before .loss-at .ensures i;
+      default = node-place x (s .args .defaults .now) (s .args .tranche) (s .args .count) i;
+      premium = node-place x (s .args .premiums .now) (s .args .tranche) (s .args .count) i;
+    }
+
+pub node-at-spec : {M : Type 1} → statement M
+node-at-spec =
+    tie.close
+    (tie.spec
+    add-place
+    mul-place
+    add-place-2
+    loss-at-requires
+    mul-t8
+    shared-slice-read-t12
+    mul-t9
+    shared-slice-read-t14
+    returns)

@@ -1,0 +1,108 @@
+-- By the checks 1 to 10, then by the steps; the row is then the distribution. Assumes nothing.
+use borrow.Author.Needs.{needs}
+use mathlib.Core.Path.{_≡_, refl, sym, _∙_, ap}
+use mathlib.Core.Bool.{false}
+use mathlib.Core.List.{List, []}
+use Prim.Native.Nat.{ℕ}
+use Rattle.rows.specs.Rows.{spreadRow}
+use Rattle.forward.proofs.Alike.{spread-alike}
+use Rattle.sheet.specs.Brought.{Brought, brought}
+use Rattle.sheet.specs.declared.Found.the-variants.{Fine}
+use Rattle.sheet.specs.Tests.{first, poolBad}
+use Rattle.sheet.proofs.Limits.{within}
+use Rattle.walk.specs.Calls.{Filled, tenTests, rowBad, forwardCall}
+use Rattle.walk.specs.Does.{Forwards}
+use Rattle.walk.specs.Ours.{filled}
+use Rattle.walk.proofs.Lengths.{row-told, row-fits}
+use Rattle.walk.proofs.Passed.{Inside, inside-by}
+use Rattle.walk.proofs.Ruled.{forwards}
+use Rattle.walk.proofs.Ends.{forward-not, forward-out, forward-done}
+use Rattle.walk.proofs.forward.Statement.{statement}
+use Rattle.walk.proofs.forward.Tie as tie
+
+-- the sheet that is brought
+abbrev sheet : tie.Start → Brought
+sheet s = brought (s .args .pool) (s .args .attachments .now) (s .args .hazards .now) (s .args .discounts .now) (s .args .accruals .now) (s .args .coupons .now)
+
+abbrev start : tie.After-to-ten → tie.Start
+start p = p .before .before .before .before .before .before .before .before .before .before
+
+told : (p : tie.After-to-ten) → poolBad (sheet (start p) .sheet) ≡ false → p .before .row-differs .result ≡ rowBad (sheet (start p)) (start p .args .register .now) (start p .args .row .now)
+told p = row-told _ _ _ _ _ _ _ _ (p .before .row-differs .ensures)
+
+-- an outcome that is ours keeps the rule of ours
+gives : (x : Brought) (g q : List ℕ) (i : ℕ) {o : Filled} → o ≡ forwardCall x g q i → (o ≡ forwardCall x g q i) × Forwards x g q i (filled o)
+gives x g q i e = (e, rw e (forwards x g q i))
+
+row-differs-requires : tie.Need-row-differs-requires
+row-differs-requires c κs = search needs
+
+to-ten-requires : tie.Need-to-ten-requires
+to-ten-requires c κs = search needs
+
+enum-known-found : tie.Need-enum-known-found
+enum-known-found c = search needs
+
+same-length : tie.Need-same-length
+same-length c = search needs
+
+returns : tie.Need-returns
+returns c =
+    let p = c .before .before .before in
+    let s = start p in
+    gives _ _ _ _ (forward-not (sheet s) (s .args .register .now) (s .args .row .now) _ (told p) (s .args .steps) (sym (p .to-ten .ensures) ∙ c .before .found .given .1))
+
+enum-told : tie.Need-enum-told
+enum-told c = search needs
+
+-- the first ten checks found nothing
+ten : (c : tie.After-enum-told) → let p = c .before .before in first (tenTests (sheet (start p)) (start p .args .register .now) (p .before .row-differs .result) []) ≡ Fine
+ten c = sym (c .before .before .to-ten .ensures) ∙ c .enum-told .given .1
+
+inside : (c : tie.After-enum-told) → let s = start (c .before .before) in Inside (sheet s) (rowBad (sheet s) (s .args .register .now) (s .args .row .now))
+inside c = inside-by _ _ _ _ [] (told (c .before .before)) (ten c)
+
+same-length-2 : tie.Need-same-length-2
+same-length-2 c = search needs
+
+returns-2 : tie.Need-returns-2
+returns-2 c =
+    let t = c .before .before in
+    let s = start (t .before .before) in
+    gives _ _ _ _ (forward-out (sheet s) (s .args .register .now) (s .args .row .now) _ (told (t .before .before)) (s .args .steps) (ten t) (c .if1 .taken))
+
+spread-requires : tie.Need-spread-requires
+spread-requires c κs =
+    let t = c .before .before .before in
+    let s = start (t .before .before) in
+    let o = inside t in
+    (sym (o .limits .lists .hazards), (row-fits (sheet s) (s .args .register .now) (s .args .row .now) (o .same), within (sheet s) (o .limits) .hazard-most))
+
+same-length-3 : tie.Need-same-length-3
+same-length-3 c = search needs
+
+returns-3 : tie.Need-returns-3
+returns-3 c =
+    let b = c .before .before in
+    let i = b .before .before in
+    let t = i .before .before in
+    let s = start (t .before .before) in
+    gives _ _ _ _
+    (forward-done (sheet s) (s .args .register .now) (s .args .row .now) _ (told (t .before .before)) (s .args .steps) (ten t) (i .if1 .left) _
+    (b .spread .ensures ∙ spread-alike _ (sheet s .sheet) refl refl (s .args .steps)))
+
+pub forward-spec : {M : Type 1} → statement M
+forward-spec =
+    tie.close
+    (tie.spec
+    row-differs-requires
+    to-ten-requires
+    enum-known-found
+    same-length
+    returns
+    enum-told
+    same-length-2
+    returns-2
+    spread-requires
+    same-length-3
+    returns-3)

@@ -1,0 +1,11 @@
+pub mod Answers
+pub mod Table
+pub mod Calls
+pub mod Reads
+pub mod Does
+pub mod Engine
+pub mod Ours
+pub mod Lists
+pub mod Promises
+pub mod Promise
+pub mod Tied

@@ -1,0 +1,77 @@
+-- The examples, by computation. Assumes nothing.
+use mathlib.Core.Path.{refl}
+use mathlib.Core.Bool.{false}
+use Rattle.tree.specs.Sheet.{spanning}
+use Rattle.sheet.proofs.Limits.{limits}
+use Rattle.walk.specs.Promises.{found, leaves, withdrew, afterAll, everWithdrew}
+use Rattle.wrong.specs.Examples.{deck as deckBook, parted, listing, Deck, Additive, Refusals, Ratios, Cuts}
+use Rattle.wrong.proofs.Computing.{computed}
+
+pub deck : Deck
+unfolding computed listing
+deck =
+    record {
+      within = limits (deckBook .sheet 7) false .0 refl .0;
+      listing = refl;
+      walked = record { opened = refl; walked = refl; own = refl };
+      rows = refl;
+      tranche-ratio = refl;
+      index-ratio = refl;
+      spread = refl;
+    }
+
+pub additive : Additive
+unfolding computed spanning
+additive =
+    record {
+      parted-within = limits (parted .sheet 5) false .0 refl .0;
+      spans = refl;
+      parted-walked = record { opened = refl; walked = refl; own = refl };
+      whole-walked = record { opened = refl; walked = refl; own = refl };
+      parted-rows = refl;
+      whole-rows = refl;
+      defaults = refl;
+      premiums = refl;
+    }
+
+pub refusals : Refusals
+unfolding computed listing
+refusals =
+    record {
+      listing = refl;
+      inside = refl;
+      pool = refl;
+      length = refl;
+      recovery = refl;
+      flat = refl;
+      above = refl;
+      hazard = refl;
+      discount = refl;
+      accrual = refl;
+      coupon = refl;
+      first = refl;
+    }
+
+pub ratios : Ratios
+unfolding computed
+ratios = record { negative = refl; both-negative = refl; half-away = refl; half-away-below = refl; no-minus-zero = refl; flat = refl; off-scale = refl; last-count = refl }
+
+pub cuts : Cuts
+unfolding computed found leaves withdrew afterAll everWithdrew
+cuts =
+    record {
+      can-be = refl;
+      byte = refl;
+      gone = refl;
+      not-issued = refl;
+      not-returned = refl;
+      still-can-be = refl;
+      still-live = refl;
+      returned = refl;
+      shut = refl;
+      other-byte = refl;
+      other-shut = refl;
+      issue-can-be = refl;
+      issued-anew = refl;
+      issued-at-last = refl;
+    }

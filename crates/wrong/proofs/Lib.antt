@@ -1,0 +1,4 @@
+pub mod Computing
+pub mod Refuted
+pub mod Alone
+pub mod Examples

@@ -1,0 +1,4 @@
+pub mod Substitutes
+pub mod Refuted
+pub mod Alone
+pub mod Examples

@@ -1,0 +1,45 @@
+-- Which part of the promise rules out each wrong engine. Proved in proofs/Refuted.antt.
+use Rattle.walk.specs.Promise.{Rules, Demand3}
+use Rattle.wrong.specs.Substitutes.{alwaysLive, issuedAgain, byteLeft, allRefused, exchangedNumbers, withdrawnFirst, notCleared, refusedZeroes, unissuedTaken, rowsLeft, oneFigure, rootAtOnce, oneRounding, roundedDown, countBefore, indexByLoss, positionMadeUp, stepEarly, zeroRefused, refusedMoves, oneAnswer, firstCoupon, netUnsigned, valueZeroes, withdrawnAnswered, ceilingsPassed, otherLength, zeroAlone, walkAbove, upsideDown, signLost, restCut, halfUpwards, paymentLost, flatForScale, stepShort, inPlace, refusedWrites}
+
+-- Demand 3: the fault shows in a list of calls from a blank register, a fresh walk and rows of any content.
+-- The rules: it shows in a hedge ratio or a distribution, or at a register or a walk that no such list leaves.
+pub record NoneKeeps : Type 0 where
+  pub always-live : Demand3 alwaysLive → ⊥
+  pub issued-again : Demand3 issuedAgain → ⊥
+  pub byte-left : Demand3 byteLeft → ⊥
+  pub all-refused : Demand3 allRefused → ⊥
+  pub exchanged-numbers : Demand3 exchangedNumbers → ⊥
+  pub withdrawn-first : Demand3 withdrawnFirst → ⊥
+  pub not-cleared : Demand3 notCleared → ⊥
+  pub refused-zeroes : Demand3 refusedZeroes → ⊥
+  pub unissued-taken : Demand3 unissuedTaken → ⊥
+  pub rows-left : Demand3 rowsLeft → ⊥
+  pub one-figure : Demand3 oneFigure → ⊥
+  pub root-at-once : Demand3 rootAtOnce → ⊥
+  pub one-rounding : Demand3 oneRounding → ⊥
+  pub rounded-down : Demand3 roundedDown → ⊥
+  pub count-before : Demand3 countBefore → ⊥
+  pub index-by-loss : Demand3 indexByLoss → ⊥
+  pub position-made-up : Demand3 positionMadeUp → ⊥
+  pub step-early : Demand3 stepEarly → ⊥
+  pub zero-refused : Demand3 zeroRefused → ⊥
+  pub refused-moves : Demand3 refusedMoves → ⊥
+  pub one-answer : Demand3 oneAnswer → ⊥
+  pub first-coupon : Demand3 firstCoupon → ⊥
+  pub net-unsigned : Demand3 netUnsigned → ⊥
+  pub value-zeroes : Demand3 valueZeroes → ⊥
+  pub withdrawn-answered : Demand3 withdrawnAnswered → ⊥
+  pub ceilings-passed : Demand3 ceilingsPassed → ⊥
+  pub other-length : Rules otherLength → ⊥
+  pub zero-alone : Rules zeroAlone → ⊥
+  pub walk-above : Rules walkAbove → ⊥
+  pub upside-down : Rules upsideDown → ⊥
+  pub sign-lost : Rules signLost → ⊥
+  pub rest-cut : Rules restCut → ⊥
+  pub half-upwards : Rules halfUpwards → ⊥
+  pub payment-lost : Rules paymentLost → ⊥
+  pub flat-for-scale : Rules flatForScale → ⊥
+  pub step-short : Rules stepShort → ⊥
+  pub in-place : Rules inPlace → ⊥
+  pub refused-writes : Rules refusedWrites → ⊥

@@ -1,0 +1,349 @@
+-- Wrong engines, each ours but for one call. proofs/Refuted.antt shows that the promise admits none of them.
+use Prim.Native.Nat.{ℕ, zero, suc, _+_, _-_, _*_, _/_, min}
+use mathlib.Core.Bool.{Bool, true, false, cond, _&&_}
+use mathlib.Core.List.{List, [], _∷_, _++_}
+use lib.ListN.{getD, set, take, replicate}
+use lib.Dec.{leb, eqb}
+use lib.IntN.{ℤ, pos, natAbs}
+use Rattle.cash.specs.declared.Node.{Node}
+use Rattle.cash.specs.Units.{B, half}
+use Rattle.cash.specs.Losses.{premiumPayment}
+use Rattle.cash.specs.Hedges.{netValue, jumpOf, negative, unlike, signed, millionths, ratioOf}
+use Rattle.register.specs.Register.{statusIn}
+use Rattle.tree.specs.Paths.{survive, default}
+use Rattle.tree.specs.Backward.{Leg}
+use Rattle.tree.specs.Legs.{premiumLeg}
+use Rattle.tree.specs.Sheet.{Sheet, hazardOf, discountOf, accrualOf, poolLossOf, outstandingOf, defaultOf, premiumOf}
+use Rattle.rows.specs.Tables.{tab}
+use Rattle.rows.specs.Rows.{nodeIn, rowOf, rolledBack, spreadRow}
+use Rattle.sheet.specs.Brought.{Brought}
+use Rattle.walk.specs.declared.Walk.{Walk}
+use Rattle.walk.specs.Answers.{Rows, Said, accepted}
+use Rattle.walk.specs.Table.{nodeOf, jump}
+use Rattle.walk.specs.Calls.{isWithdrawn, isUnissued, zeros, rolls}
+use Rattle.walk.specs.Does.{Entered, Moved, Spread, says}
+use Rattle.walk.specs.Engine.{Engine}
+use Rattle.walk.specs.Ours.{ours}
+
+-- ---- ours, with one call replaced
+
+abbrev issueBy : (List ℕ → ℕ → Entered) → Engine
+issueBy f =
+    record { issue = f; withdraw = ours .withdraw; opening = ours .opening; back = ours .back; value = ours .value; ratio = ours .ratio; forward = ours .forward }
+
+abbrev withdrawBy : (List ℕ → ℕ → Entered) → Engine
+withdrawBy f =
+    record { issue = ours .issue; withdraw = f; opening = ours .opening; back = ours .back; value = ours .value; ratio = ours .ratio; forward = ours .forward }
+
+abbrev openBy : (Brought → List ℕ → Walk → Rows → Moved) → Engine
+openBy f =
+    record { issue = ours .issue; withdraw = ours .withdraw; opening = f; back = ours .back; value = ours .value; ratio = ours .ratio; forward = ours .forward }
+
+abbrev backBy : (Brought → List ℕ → Walk → Rows → ℕ → Moved) → Engine
+backBy f =
+    record { issue = ours .issue; withdraw = ours .withdraw; opening = ours .opening; back = f; value = ours .value; ratio = ours .ratio; forward = ours .forward }
+
+abbrev valueBy : (Brought → List ℕ → Walk → Rows → ℕ → ℕ → Moved) → Engine
+valueBy f =
+    record { issue = ours .issue; withdraw = ours .withdraw; opening = ours .opening; back = ours .back; value = f; ratio = ours .ratio; forward = ours .forward }
+
+abbrev ratioBy : (Brought → List ℕ → Walk → Rows → ℕ → ℕ → Moved) → Engine
+ratioBy f =
+    record { issue = ours .issue; withdraw = ours .withdraw; opening = ours .opening; back = ours .back; value = ours .value; ratio = f; forward = ours .forward }
+
+abbrev forwardBy : (Brought → List ℕ → List ℕ → ℕ → Spread) → Engine
+forwardBy f =
+    record { issue = ours .issue; withdraw = ours .withdraw; opening = ours .opening; back = ours .back; value = ours .value; ratio = ours .ratio; forward = f }
+
+-- ---- what a call gives back, changed
+
+abbrev refusal : ℕ → Said
+refusal n = record { number = n; values = [] }
+
+abbrev withSaid : Moved → Said → Moved
+withSaid o s = record { said = s; walk = o .walk; rows = o .rows }
+
+abbrev withRows : Moved → Rows → Moved
+withRows o l = record { said = o .said; walk = o .walk; rows = l }
+
+-- At the position i, which a back also answers.
+abbrev movedTo : Moved → ℕ → Moved
+movedTo o i =
+    record { said = says (pos i ∷ []); walk = record { «open» = o .walk .«open»; number = o .walk .number; position = i }; rows = o .rows }
+
+-- The first where the call was accepted, and the second where it was refused.
+abbrev byAnswer : Moved → Moved → Moved → Moved
+byAnswer o a b = cond (accepted (o .said)) a b
+
+-- Two refusal numbers taken for one another.
+abbrev exchanged : ℕ → ℕ → Said → Said
+exchanged m n s = cond (eqb (s .number) m) (refusal n) (cond (eqb (s .number) n) (refusal m) s)
+
+-- ---- issue and withdraw
+
+abbrev pub alwaysLive : Engine
+alwaysLive = issueBy (λ g y. record { said = refusal 17; register = g })
+
+-- A withdrawn number is issued again.
+abbrev pub issuedAgain : Engine
+issuedAgain = issueBy (λ g y. cond (isWithdrawn (statusIn g y)) (record { said = says []; register = set g y 0xA5 }) (ours .issue g y))
+
+-- Withdraw answers as it should and leaves the byte.
+abbrev pub byteLeft : Engine
+byteLeft = withdrawBy (λ g y. record { said = ours .withdraw g y .said; register = g })
+
+-- ---- open
+
+abbrev pub allRefused : Engine
+allRefused = openBy (λ x g w l. record { said = refusal 1; walk = w; rows = l })
+
+-- 3 and 4 exchanged.
+abbrev pub exchangedNumbers : Engine
+exchangedNumbers = openBy (λ x g w l. withSaid (ours .opening x g w l) (exchanged 3 4 (ours .opening x g w l .said)))
+
+-- 9 is seen before the limits of the sheet.
+abbrev pub withdrawnFirst : Engine
+withdrawnFirst =
+    openBy (λ x g w l. cond (isWithdrawn (statusIn g (x .number))) (record { said = refusal 9; walk = w; rows = l }) (ours .opening x g w l))
+
+-- An accepted open leaves the rows as they were lent.
+abbrev pub notCleared : Engine
+notCleared = openBy (λ x g w l. withRows (ours .opening x g w l) l)
+
+-- A refused open zeroes the rows lent to it.
+abbrev pub refusedZeroes : Engine
+refusedZeroes = openBy (λ x g w l. byAnswer (ours .opening x g w l) (ours .opening x g w l) (withRows (ours .opening x g w l) (zeros x)))
+
+-- A number that was never issued is opened.
+abbrev pub unissuedTaken : Engine
+unissuedTaken = openBy (λ x g w l. ours .opening x (cond (isUnissued (statusIn g (x .number))) (set g (x .number) 0xA5) g) w l)
+
+-- A register of another length is taken: bytes that it lacks are read as live.
+abbrev pub otherLength : Engine
+otherLength = openBy (λ x g w l. ours .opening x (take 256 (g ++ replicate 256 0xA5)) w l)
+
+-- Only 00 is read as withdrawn.
+abbrev pub zeroAlone : Engine
+zeroAlone =
+    openBy (λ x g w l.
+    ours .opening x (cond (isWithdrawn (statusIn g (x .number)) && leb 1 (getD g (x .number) 0)) (set g (x .number) 0xA5) g) w l)
+
+-- ---- back
+
+-- The rows are left as they are: at zero, after an open.
+abbrev pub rowsLeft : Engine
+rowsLeft = backBy (λ x g w l c. withRows (ours .back x g w l c) l)
+
+-- An accepted back leaves the rows that f gives, from what ours leaves.
+abbrev backRows : (Brought → Walk → Rows → ℕ → Rows → Rows) → Engine
+backRows f =
+    backBy (λ x g w l c.
+    byAnswer (ours .back x g w l c) (withRows (ours .back x g w l c) (f x w l c (ours .back x g w l c .rows))) (ours .back x g w l c))
+
+-- One figure for all nodes.
+abbrev pub oneFigure : Engine
+oneFigure =
+    backRows (λ x w l c m.
+    record {
+      defaults = rowOf (x .sheet) (λ j k. nodeIn (x .sheet) (m .defaults) 0 0);
+      premiums = rowOf (x .sheet) (λ j k. nodeIn (x .sheet) (m .premiums) 0 0);
+    })
+
+-- The first back walks to the root, later ones only lower the position.
+abbrev pub rootAtOnce : Engine
+rootAtOnce = backRows (λ x w l c m. cond (eqb (w .position) (x .sheet .steps)) (rolls x (w .position) (w .position) l) l)
+
+-- One step back by another rule of a node, and c of them.
+unfoldable pub steppedBy : (ℕ → ℕ → ℕ → ℕ → ℕ) → Sheet → (ℕ → Leg) → ℕ → List ℕ → List ℕ
+steppedBy node x leg i row =
+    rowOf x (λ j k.
+    node (hazardOf x (suc i) k) (discountOf x (suc i))
+    (nodeIn x row j (suc k) + leg j .rounded (suc i) k default)
+    (nodeIn x row j k + leg j .rounded (suc i) k survive))
+
+unfoldable pub rolledBy : (ℕ → ℕ → ℕ → ℕ → ℕ) → Sheet → (ℕ → Leg) → ℕ → ℕ → List ℕ → List ℕ
+rolledBy node x leg i zero row = row
+rolledBy node x leg i (suc c) row = steppedBy node x leg (i - suc c) (rolledBy node x leg i c row)
+
+abbrev backNodes : (ℕ → ℕ → ℕ → ℕ → ℕ) → Engine
+backNodes node =
+    backRows (λ x w l c m.
+    record {
+      defaults = rolledBy node (x .sheet) (defaultOf (x .sheet)) (w .position) c (l .defaults);
+      premiums = rolledBy node (x .sheet) (premiumOf (x .sheet)) (w .position) c (l .premiums);
+    })
+
+-- One rounding for chance and discount together.
+abbrev pub oneRounding : Engine
+oneRounding =
+    backNodes (λ hazard discount defaulted survived. (discount * (hazard * defaulted + (B - hazard) * survived) + B * B / 2) / (B * B))
+
+-- Both roundings down.
+abbrev pub roundedDown : Engine
+roundedDown = backNodes (λ hazard discount defaulted survived. discount * ((hazard * defaulted + (B - hazard) * survived) / B) / B)
+
+-- Premiums by another leg.
+abbrev backPremiums : (Sheet → ℕ → Leg) → Engine
+backPremiums leg =
+    backRows (λ x w l c m.
+    record { defaults = m .defaults; premiums = rolledBack (x .sheet) (leg (x .sheet)) (w .position) c (l .premiums) })
+
+-- Premium paid on the count before the step.
+abbrev pub countBefore : Engine
+countBefore =
+    backPremiums (λ x j.
+    record {
+      exactly = premiumOf x j .exactly;
+      rounded = λ s k m. premiumPayment (accrualOf x s) (outstandingOf x j k);
+      halves = premiumOf x j .halves;
+    })
+
+-- Index outstanding taken as B - L(k).
+abbrev pub indexByLoss : Engine
+indexByLoss = backPremiums (λ x j. premiumLeg (accrualOf x) (λ k. cond (leb (x .tranches) j) (B - poolLossOf x k) (outstandingOf x j k)))
+
+-- The position is made up: c below the last step, wherever the walk stands.
+abbrev pub positionMadeUp : Engine
+positionMadeUp =
+    backBy (λ x g w l c. byAnswer (ours .back x g w l c) (movedTo (ours .back x g w l c) (x .sheet .steps - c)) (ours .back x g w l c))
+
+-- `out of steps` before a step is used: back by the whole position is refused.
+abbrev pub stepEarly : Engine
+stepEarly =
+    backBy (λ x g w l c.
+    byAnswer (ours .back x g w l c)
+    (cond (eqb c (w .position)) (record { said = refusal 13; walk = w; rows = l }) (ours .back x g w l c)) (ours .back x g w l c))
+
+-- Back by 0 is refused.
+abbrev pub zeroRefused : Engine
+zeroRefused =
+    backBy (λ x g w l c.
+    byAnswer (ours .back x g w l c)
+    (cond (eqb c 0) (record { said = refusal 13; walk = w; rows = l }) (ours .back x g w l c)) (ours .back x g w l c))
+
+-- A refused back moves the walk.
+abbrev pub refusedMoves : Engine
+refusedMoves =
+    backBy (λ x g w l c.
+    byAnswer (ours .back x g w l c) (ours .back x g w l c)
+    (withSaid (movedTo (ours .back x g w l c) (w .position - c)) (ours .back x g w l c .said)))
+
+-- ---- value
+
+-- One figure for all nodes.
+abbrev pub oneAnswer : Engine
+oneAnswer =
+    valueBy (λ x g w l j k. byAnswer (ours .value x g w l j k) (ours .value x g w l 0 0) (ours .value x g w l j k))
+
+-- D and A of a node, and W by another rule.
+abbrev valueNets : (Brought → ℕ → ℕ → ℕ → ℤ) → Engine
+valueNets net =
+    valueBy (λ x g w l j k.
+    byAnswer (ours .value x g w l j k)
+    (withSaid (ours .value x g w l j k)
+    (says (pos (nodeIn (x .sheet) (l .defaults) j k) ∷ pos (nodeIn (x .sheet) (l .premiums) j k)
+    ∷ net x j (nodeIn (x .sheet) (l .defaults) j k) (nodeIn (x .sheet) (l .premiums) j k) ∷ [])))
+    (ours .value x g w l j k))
+
+-- W with the coupon of tranche 0.
+abbrev pub firstCoupon : Engine
+firstCoupon = valueNets (λ x j d a. netValue d (getD (x .coupons) 0 0) a)
+
+-- W without its sign.
+abbrev pub netUnsigned : Engine
+netUnsigned = valueNets (λ x j d a. pos (natAbs (netValue d (getD (x .coupons) j 0) a)))
+
+-- An accepted value zeroes the rows lent to it.
+abbrev pub valueZeroes : Engine
+valueZeroes = valueBy (λ x g w l j k. byAnswer (ours .value x g w l j k) (withRows (ours .value x g w l j k) (zeros x)) (ours .value x g w l j k))
+
+-- A withdrawn number is still answered.
+abbrev pub withdrawnAnswered : Engine
+withdrawnAnswered = valueBy (λ x g w l j k. ours .value x (cond (isWithdrawn (statusIn g (x .number))) (set g (x .number) 0xA5) g) w l j k)
+
+-- Entries over their ceilings are taken.
+abbrev pub ceilingsPassed : Engine
+ceilingsPassed =
+    valueBy (λ x g w l j k.
+    cond (eqb (ours .value x g w l j k .said .number) 12) (withSaid (ours .value x g w l j k) (says [])) (ours .value x g w l j k))
+
+-- A walk that stands above the last step is taken for one that stands there.
+abbrev pub walkAbove : Engine
+walkAbove =
+    valueBy (λ x g w l j k.
+    record {
+      said = ours .value x g (record { «open» = w .«open»; number = w .number; position = min (w .position) (x .sheet .steps) }) l j k .said;
+      walk = w;
+      rows = l;
+    })
+
+-- ---- hedge ratio
+
+-- An accepted ratio by another rule.
+abbrev ratioOfRows : (Brought → Rows → ℕ → ℕ → ℤ) → Engine
+ratioOfRows f =
+    ratioBy (λ x g w l j k.
+    byAnswer (ours .ratio x g w l j k) (withSaid (ours .ratio x g w l j k) (says (f x l j k ∷ []))) (ours .ratio x g w l j k))
+
+-- The index's jump over the tranche's.
+abbrev pub upsideDown : Engine
+upsideDown = ratioOfRows (λ x l j k. ratioOf (jump x l (x .sheet .tranches) k) (jump x l j k))
+
+abbrev pub signLost : Engine
+signLost = ratioOfRows (λ x l j k. pos (natAbs (ratioOf (jump x l j k) (jump x l (x .sheet .tranches) k))))
+
+-- The rest cut off, towards zero.
+abbrev pub restCut : Engine
+restCut =
+    ratioOfRows (λ x l j k.
+    signed (unlike (negative (jump x l j k)) (negative (jump x l (x .sheet .tranches) k)))
+    (natAbs (jump x l j k) * 1_000_000 / natAbs (jump x l (x .sheet .tranches) k)))
+
+-- A half rounded upwards, also below zero.
+abbrev upwards : Bool → ℕ → ℕ → ℤ
+upwards true s d = signed true ((2 * (s * 1_000_000) + d - 1) / (2 * d))
+upwards false s d = signed false (millionths s d)
+
+abbrev pub halfUpwards : Engine
+halfUpwards =
+    ratioOfRows (λ x l j k.
+    upwards (unlike (negative (jump x l j k)) (negative (jump x l (x .sheet .tranches) k)))
+    (natAbs (jump x l j k)) (natAbs (jump x l (x .sheet .tranches) k)))
+
+-- Jumps without what the default itself pays.
+abbrev unpaid : Node → Node
+unpaid a = record { loss = 0; default = a .default; premium = a .premium }
+
+abbrev unpaidJump : Brought → Rows → ℕ → ℕ → ℤ
+unpaidJump x l j k = jumpOf (getD (x .coupons) j 0) (unpaid (nodeOf (x .sheet) l j k)) (unpaid (nodeOf (x .sheet) l j (suc k)))
+
+abbrev pub paymentLost : Engine
+paymentLost = ratioOfRows (λ x l j k. ratioOf (unpaidJump x l j k) (unpaidJump x l (x .sheet .tranches) k))
+
+-- 15 and 16 exchanged.
+abbrev pub flatForScale : Engine
+flatForScale = ratioBy (λ x g w l j k. withSaid (ours .ratio x g w l j k) (exchanged 15 16 (ours .ratio x g w l j k .said)))
+
+-- ---- forward
+
+abbrev pub stepShort : Engine
+stepShort = forwardBy (λ x g q i. ours .forward x g q (i - 1))
+
+-- Moves made in place from low k: c comes from the count below.
+unfoldable pub lowFirst : List ℕ → List ℕ → ℕ → List ℕ
+lowFirst [] h c = []
+lowFirst (q ∷ l) [] c = (q + c) ∷ lowFirst l [] 0
+lowFirst (q ∷ l) (p ∷ h) c = (q + c - half ((q + c) * p)) ∷ lowFirst l h (half ((q + c) * p))
+
+unfoldable pub lowRow : Sheet → ℕ → List ℕ
+lowRow x zero = tab (x .names + 1) (λ k. cond (eqb k 0) B 0)
+lowRow x (suc i) = lowFirst (lowRow x i) (x .hazards) 0
+
+abbrev pub inPlace : Engine
+inPlace =
+    forwardBy (λ x g q i.
+    cond (accepted (ours .forward x g q i .said)) (record { said = says []; row = lowRow (x .sheet) i }) (ours .forward x g q i))
+
+-- A refused forward writes the row.
+abbrev pub refusedWrites : Engine
+refusedWrites = forwardBy (λ x g q i. record { said = ours .forward x g q i .said; row = spreadRow (x .sheet) i })

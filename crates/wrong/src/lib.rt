@@ -1,0 +1,1 @@
+// Wrong engines, each refuted: see specs/ and proofs/.

@@ -1,0 +1,302 @@
+//! The deck and its listing (document 01, "Deck and printing program").
+//!
+//! The sheet cannot change under an open walk. A pool command comes once, so
+//! n, m, r, R and the number stay; each list only grows, so one that has its
+//! length gets refusal 2 for good with one figure more. The rows lent are
+//! therefore those of one and the same sheet for all accepted calls.
+
+use crate::refusal::{refuse_if, Refusal};
+use crate::register;
+use crate::sheet::{Sheet, MAX_NAMES, MAX_STEPS, MAX_TRANCHES};
+use crate::walk::{self, Walk};
+
+/// In bytes.
+pub const MAX_DECK: usize = 65_536;
+
+/// Room for the rows of the largest tree.
+const ROW_ROOM: usize = (MAX_TRANCHES + 1) * (MAX_NAMES + 1);
+
+const POOL: u8 = 0x01;
+/// An attachment point.
+const CUT: u8 = 0x02;
+const HAZARD: u8 = 0x03;
+const STEP: u8 = 0x04;
+const COUPON: u8 = 0x05;
+const ISSUE: u8 = 0x06;
+const WITHDRAW: u8 = 0x07;
+const OPEN: u8 = 0x08;
+const BACK: u8 = 0x09;
+const VALUE: u8 = 0x0A;
+/// The hedge ratio.
+const DELTA: u8 = 0x0B;
+const FORWARD: u8 = 0x0C;
+
+/// What the program keeps from command to command.
+struct Program {
+    has_pool: bool,
+    sheet: Sheet,
+    register: Vec<u8>,
+    walk: Walk,
+    /// Document 01 only asks for rows of the right length. They are read as
+    /// room for the largest tree, zero at first and kept from call to call,
+    /// of which the first (r + 1) x (n + 1) numbers are lent. No listing
+    /// could tell another reading apart: before an open, 11 comes first.
+    default_row: Vec<u64>,
+    premium_row: Vec<u64>,
+}
+
+impl Program {
+    fn new() -> Program {
+        Program {
+            has_pool: false,
+            sheet: empty_sheet(),
+            register: register::blank(),
+            walk: Walk::fresh(),
+            default_row: vec![0; ROW_ROOM],
+            premium_row: vec![0; ROW_ROOM],
+        }
+    }
+
+    /// How much of each row is lent. A deck may name more names or tranches
+    /// than there is room for; then refusal 1 comes before any length.
+    fn lent_length(&self) -> usize {
+        walk::row_length(&self.sheet).min(ROW_ROOM)
+    }
+}
+
+/// What a deck starts with; its zeros fail check 1.
+fn empty_sheet() -> Sheet {
+    Sheet {
+        number: 0,
+        names: 0,
+        steps: 0,
+        tranches: 0,
+        recovery: 0,
+        attachments: Vec::new(),
+        hazards: Vec::new(),
+        discounts: Vec::new(),
+        accruals: Vec::new(),
+        coupons: Vec::new(),
+    }
+}
+
+/// Runs a deck from a blank register and returns all that it prints.
+pub fn listing(deck: &[u8]) -> Vec<u8> {
+    if deck.len() > MAX_DECK {
+        return deck_line(Refusal::TooMany, MAX_DECK).into_bytes();
+    }
+    let mut program = Program::new();
+    let mut printed = String::new();
+    let mut offset = 0;
+    while offset < deck.len() {
+        match run_command(&mut program, &deck[offset..]) {
+            Ok((length, line)) => {
+                printed += &line;
+                offset += length;
+            }
+            Err(refusal) => {
+                printed += &deck_line(refusal, offset);
+                break;
+            }
+        }
+    }
+    printed.into_bytes()
+}
+
+/// Runs the command at the front of `deck`. Answers how many bytes it took
+/// and the line it prints, which is empty for a sheet command. Checks 18, 19
+/// and 20, in that order.
+fn run_command(program: &mut Program, deck: &[u8]) -> Result<(usize, String), Refusal> {
+    let command = deck[0];
+    let width = operand_width(command).ok_or(Refusal::Unknown)?;
+    refuse_if(deck.len() < 1 + width, Refusal::CutShort)?;
+    let operands = &deck[1..1 + width];
+    let line = if command <= COUPON {
+        add_to_sheet(program, command, operands)?;
+        String::new()
+    } else {
+        call(program, command, operands)
+    };
+    Ok((1 + width, line))
+}
+
+/// Bytes of all operands together; none for an unknown command.
+fn operand_width(command: u8) -> Option<usize> {
+    match command {
+        POOL => Some(1 + 2 + 1 + 4 + 1),
+        CUT | HAZARD | COUPON => Some(4),
+        STEP => Some(4 + 4),
+        ISSUE | WITHDRAW => Some(1),
+        OPEN => Some(0),
+        BACK => Some(2),
+        VALUE | DELTA => Some(1 + 1),
+        FORWARD => Some(2 + 1),
+        _ => None,
+    }
+}
+
+/// An operand: unsigned, low byte first.
+fn number(bytes: &[u8]) -> u64 {
+    let mut number = 0;
+    for &byte in bytes.iter().rev() {
+        number = 256 * number + u64::from(byte);
+    }
+    number
+}
+
+/// An operand that counts something.
+fn count(bytes: &[u8]) -> usize {
+    number(bytes) as usize
+}
+
+/// Commands 01 to 05, with check 20. The figures are not looked at here; the
+/// calls that bring the sheet check them.
+fn add_to_sheet(program: &mut Program, command: u8, operands: &[u8]) -> Result<(), Refusal> {
+    let sheet = &mut program.sheet;
+    match command {
+        POOL => {
+            refuse_if(program.has_pool, Refusal::TooMany)?;
+            program.has_pool = true;
+            sheet.names = count(&operands[0..1]);
+            sheet.steps = count(&operands[1..3]);
+            sheet.tranches = count(&operands[3..4]);
+            sheet.recovery = number(&operands[4..8]);
+            sheet.number = operands[8];
+            Ok(())
+        }
+        CUT => add(&mut sheet.attachments, MAX_TRANCHES + 1, operands),
+        HAZARD => add(&mut sheet.hazards, MAX_NAMES, operands),
+        STEP => {
+            add(&mut sheet.discounts, MAX_STEPS, &operands[0..4])?;
+            add(&mut sheet.accruals, MAX_STEPS, &operands[4..8])
+        }
+        COUPON => add(&mut sheet.coupons, MAX_TRANCHES + 1, operands),
+        _ => unreachable!("not a sheet command"),
+    }
+}
+
+fn add(list: &mut Vec<u64>, limit: usize, operand: &[u8]) -> Result<(), Refusal> {
+    refuse_if(list.len() == limit, Refusal::TooMany)?;
+    list.push(number(operand));
+    Ok(())
+}
+
+/// Commands 06 to 0C: the line each of them prints.
+fn call(program: &mut Program, command: u8, operands: &[u8]) -> String {
+    match command {
+        ISSUE => {
+            let answer = register::issue(&mut program.register, operands[0]);
+            line("issue", answer.map(|()| vec![]))
+        }
+        WITHDRAW => {
+            let answer = register::withdraw(&mut program.register, operands[0]);
+            line("withdraw", answer.map(|()| vec![]))
+        }
+        OPEN => line("open", open(program).map(|()| vec![])),
+        BACK => {
+            let answer = back(program, count(operands));
+            line("back", answer.map(|position| vec![position as i128]))
+        }
+        VALUE => {
+            let answer = value(program, count(&operands[0..1]), count(&operands[1..2]));
+            line("value", answer)
+        }
+        DELTA => {
+            let answer = delta(program, count(&operands[0..1]), count(&operands[1..2]));
+            line("delta", answer.map(|ratio| vec![ratio]))
+        }
+        FORWARD => {
+            let answer = forward(program, count(&operands[0..2]), count(&operands[2..3]));
+            line("forward", answer.map(|chance| vec![i128::from(chance)]))
+        }
+        _ => unreachable!("not a call"),
+    }
+}
+
+fn open(program: &mut Program) -> Result<(), Refusal> {
+    let length = program.lent_length();
+    let (walk, answer) = walk::open(
+        program.walk,
+        &program.sheet,
+        &program.register,
+        &mut program.default_row[..length],
+        &mut program.premium_row[..length],
+    );
+    program.walk = walk;
+    answer
+}
+
+fn back(program: &mut Program, steps: usize) -> Result<usize, Refusal> {
+    let length = program.lent_length();
+    let (walk, answer) = walk::back(
+        program.walk,
+        &program.sheet,
+        &program.register,
+        steps,
+        &mut program.default_row[..length],
+        &mut program.premium_row[..length],
+    );
+    program.walk = walk;
+    answer
+}
+
+/// D, A and W.
+fn value(program: &mut Program, tranche: usize, count: usize) -> Result<Vec<i128>, Refusal> {
+    let length = program.lent_length();
+    let (walk, answer) = walk::value(
+        program.walk,
+        &program.sheet,
+        &program.register,
+        tranche,
+        count,
+        &program.default_row[..length],
+        &program.premium_row[..length],
+    );
+    program.walk = walk;
+    let value = answer?;
+    Ok(vec![
+        value.default as i128,
+        value.premium as i128,
+        value.net,
+    ])
+}
+
+fn delta(program: &mut Program, tranche: usize, count: usize) -> Result<i128, Refusal> {
+    let length = program.lent_length();
+    let (walk, answer) = walk::hedge_ratio(
+        program.walk,
+        &program.sheet,
+        &program.register,
+        tranche,
+        count,
+        &program.default_row[..length],
+        &program.premium_row[..length],
+    );
+    program.walk = walk;
+    answer
+}
+
+/// Q(k). The call itself fills the whole row and knows no k, so the program
+/// looks at k after all refusals of the call.
+fn forward(program: &Program, steps: usize, count: usize) -> Result<u64, Refusal> {
+    let mut row = vec![0; program.sheet.names + 1];
+    walk::forward(&program.sheet, &program.register, steps, &mut row)?;
+    refuse_if(count > program.sheet.names, Refusal::OffTree)?;
+    Ok(row[count])
+}
+
+/// One line for a call: 0 and its figures, or only the number of a refusal.
+fn line(word: &str, answer: Result<Vec<i128>, Refusal>) -> String {
+    match answer {
+        Ok(figures) => {
+            let fields: String = figures.iter().map(|figure| format!(" {figure}")).collect();
+            format!("{word} 0{fields}\n")
+        }
+        Err(refusal) => format!("{word} {}\n", refusal.number()),
+    }
+}
+
+/// Refusals 18, 19 and 20, with the place of the command.
+fn deck_line(refusal: Refusal, offset: usize) -> String {
+    format!("deck {} {offset}\n", refusal.number())
+}

@@ -1,0 +1,975 @@
+//! The deck and its listing: the worked deck to the letter, the refusals of
+//! the deck itself, and what every command prints.
+
+mod common;
+
+use common::{plain_sheet, Random, B};
+use lavroudem_model::deck::listing;
+use lavroudem_model::refusal::Refusal;
+use lavroudem_model::register;
+use lavroudem_model::sheet::Sheet;
+use lavroudem_model::tree::{default_leg, distribution, net_value, premium_leg, roll_back, Rows};
+use lavroudem_model::walk::{self, row_length, Walk};
+use lavroudem_model::worked;
+use std::io::Write;
+use std::process::{Command, Stdio};
+
+// One function for each command, with operands of the width they have.
+
+fn pool(names: u8, steps: u16, tranches: u8, recovery: u32, number: u8) -> Vec<u8> {
+    let mut bytes = vec![0x01, names];
+    bytes.extend(steps.to_le_bytes());
+    bytes.push(tranches);
+    bytes.extend(recovery.to_le_bytes());
+    bytes.push(number);
+    bytes
+}
+
+fn with_figure(command: u8, figure: u32) -> Vec<u8> {
+    let mut bytes = vec![command];
+    bytes.extend(figure.to_le_bytes());
+    bytes
+}
+
+fn cut(point: u32) -> Vec<u8> {
+    with_figure(0x02, point)
+}
+
+fn hazard(chance: u32) -> Vec<u8> {
+    with_figure(0x03, chance)
+}
+
+fn step(discount: u32, accrual: u32) -> Vec<u8> {
+    let mut bytes = with_figure(0x04, discount);
+    bytes.extend(accrual.to_le_bytes());
+    bytes
+}
+
+fn coupon(coupon: u32) -> Vec<u8> {
+    with_figure(0x05, coupon)
+}
+
+fn issue(number: u8) -> Vec<u8> {
+    vec![0x06, number]
+}
+
+fn withdraw(number: u8) -> Vec<u8> {
+    vec![0x07, number]
+}
+
+fn open() -> Vec<u8> {
+    vec![0x08]
+}
+
+fn back(steps: u16) -> Vec<u8> {
+    let [low, high] = steps.to_le_bytes();
+    vec![0x09, low, high]
+}
+
+fn value(tranche: u8, count: u8) -> Vec<u8> {
+    vec![0x0A, tranche, count]
+}
+
+fn delta(tranche: u8, count: u8) -> Vec<u8> {
+    vec![0x0B, tranche, count]
+}
+
+fn forward(steps: u16, count: u8) -> Vec<u8> {
+    let [low, high] = steps.to_le_bytes();
+    vec![0x0C, low, high, count]
+}
+
+/// The figures of the trials all fit the operands.
+fn narrow(figure: u64) -> u32 {
+    u32::try_from(figure).unwrap()
+}
+
+fn pool_of(sheet: &Sheet) -> Vec<u8> {
+    pool(
+        sheet.names as u8,
+        sheet.steps as u16,
+        sheet.tranches as u8,
+        narrow(sheet.recovery),
+        sheet.number,
+    )
+}
+
+/// The sheet's lists, each as its commands.
+fn lists_of(sheet: &Sheet) -> [Vec<Vec<u8>>; 4] {
+    let each = |list: &[u64], command: fn(u32) -> Vec<u8>| -> Vec<Vec<u8>> {
+        list.iter().map(|&figure| command(narrow(figure))).collect()
+    };
+    let steps = sheet.discounts.iter().zip(&sheet.accruals);
+    [
+        each(&sheet.attachments, cut),
+        each(&sheet.hazards, hazard),
+        steps.map(|(&v, &a)| step(narrow(v), narrow(a))).collect(),
+        each(&sheet.coupons, coupon),
+    ]
+}
+
+/// The sheet commands in the order of document 01.
+fn sheet_deck(sheet: &Sheet) -> Vec<u8> {
+    let mut deck = pool_of(sheet);
+    deck.extend(lists_of(sheet).concat().concat());
+    deck
+}
+
+fn printed(deck: &[u8]) -> String {
+    String::from_utf8(listing(deck)).unwrap()
+}
+
+/// What is printed by commands after those of a sheet.
+fn printed_after(sheet: &Sheet, commands: &[Vec<u8>]) -> String {
+    printed(&[sheet_deck(sheet), commands.concat()].concat())
+}
+
+fn worked_calls() -> Vec<Vec<u8>> {
+    vec![
+        issue(7),
+        open(),
+        back(2),
+        value(0, 0),
+        value(1, 0),
+        delta(0, 0),
+        forward(2, 1),
+        withdraw(7),
+        value(0, 0),
+    ]
+}
+
+fn worked_deck() -> Vec<u8> {
+    [sheet_deck(&worked::sheet()), worked_calls().concat()].concat()
+}
+
+const WORKED_LISTING: &str = "\
+issue 0
+open 0
+back 0 0
+value 0 54300000 218700000 324300000000000
+value 0 59700000 805500000 194250000000000
+delta 0 724386
+forward 0 170000000
+withdraw 0
+value 9
+";
+
+#[test]
+fn worked_deck_prints_its_nine_lines() {
+    assert_eq!(printed(&worked_deck()), WORKED_LISTING);
+}
+
+/// Byte for byte by hand, so that the helpers above are not trusted alone.
+#[test]
+fn worked_deck_is_these_bytes() {
+    let bytes = [
+        0x01, 0x02, 0x02, 0x00, 0x01, 0x00, 0x84, 0xD7, 0x17, 0x07, // pool
+        0x02, 0x00, 0x00, 0x00, 0x00, // cut 0
+        0x02, 0x00, 0xA3, 0xE1, 0x11, // cut 300000000
+        0x03, 0x00, 0xE1, 0xF5, 0x05, // hazard 100000000
+        0x03, 0x00, 0xC2, 0xEB, 0x0B, // hazard 200000000
+        0x04, 0x00, 0xCA, 0x9A, 0x3B, 0x00, 0x00, 0x00, 0x00, // step 1
+        0x04, 0x00, 0xE9, 0xA4, 0x35, 0x00, 0xCA, 0x9A, 0x3B, // step 2
+        0x05, 0x40, 0x42, 0x0F, 0x00, // coupon 1000000
+        0x05, 0x20, 0xA1, 0x07, 0x00, // coupon 500000
+        0x06, 0x07, // issue 7
+        0x08, // open
+        0x09, 0x02, 0x00, // back 2
+        0x0A, 0x00, 0x00, // value 0 0
+        0x0A, 0x01, 0x00, // value 1 0
+        0x0B, 0x00, 0x00, // delta 0 0
+        0x0C, 0x02, 0x00, 0x01, // forward 2 1
+        0x07, 0x07, // withdraw 7
+        0x0A, 0x00, 0x00, // value 0 0
+    ];
+    assert_eq!(worked_deck(), bytes);
+    assert_eq!(listing(&bytes), WORKED_LISTING.as_bytes());
+}
+
+/// Runs the program with a deck on its standard input.
+fn run_program(deck: &[u8]) -> Vec<u8> {
+    let mut program = Command::new(env!("CARGO_BIN_EXE_listing"))
+        .stdin(Stdio::piped())
+        .stdout(Stdio::piped())
+        .spawn()
+        .unwrap();
+    let mut input = program.stdin.take().unwrap();
+    input.write_all(deck).unwrap();
+    drop(input); // the end of the deck
+    let run = program.wait_with_output().unwrap();
+    assert!(run.status.success());
+    run.stdout
+}
+
+#[test]
+fn program_prints_the_listing_of_its_input() {
+    for deck in [vec![], worked_deck(), vec![0x0D], vec![0x08; 70_000]] {
+        assert_eq!(run_program(&deck), listing(&deck));
+    }
+}
+
+#[test]
+fn empty_deck_prints_nothing() {
+    assert_eq!(printed(&[]), "");
+}
+
+#[test]
+fn sheet_commands_print_nothing() {
+    assert_eq!(printed(&sheet_deck(&worked::sheet())), "");
+    assert_eq!(printed(&sheet_deck(&plain_sheet(125, 3_650, 8))), "");
+    // Nor are their figures looked at.
+    let most = u32::MAX;
+    let commands = [
+        pool(255, 65_535, 255, most, 255),
+        cut(most),
+        hazard(most),
+        step(most, most),
+        coupon(most),
+    ];
+    assert_eq!(printed(&commands.concat()), "");
+}
+
+/// Every command with its width in bytes, operands included.
+fn one_of_each() -> [(Vec<u8>, usize); 12] {
+    [
+        (pool(1, 2, 3, 4, 5), 10),
+        (cut(1), 5),
+        (hazard(1), 5),
+        (step(1, 2), 9),
+        (coupon(1), 5),
+        (issue(1), 2),
+        (withdraw(1), 2),
+        (open(), 1),
+        (back(1), 3),
+        (value(1, 2), 3),
+        (delta(1, 2), 3),
+        (forward(1, 2), 4),
+    ]
+}
+
+#[test]
+fn every_other_byte_is_unknown() {
+    for byte in 0..=255 {
+        let known = (0x01..=0x0C).contains(&byte);
+        for rest in [0, 20] {
+            let deck = [vec![byte], vec![0; rest]].concat();
+            assert_eq!(printed(&deck).starts_with("deck 18 0\n"), !known);
+        }
+    }
+    assert_eq!(printed(&[0x00]), "deck 18 0\n");
+    assert_eq!(printed(&[0x0D]), "deck 18 0\n");
+    assert_eq!(printed(&[0xFF; 9]), "deck 18 0\n");
+}
+
+#[test]
+fn offset_is_that_of_the_command_byte() {
+    let mut deck = Vec::new();
+    for (command, width) in one_of_each() {
+        assert_eq!(command.len(), width);
+        let spoilt = [deck.clone(), vec![0x77]].concat();
+        let line = format!("deck 18 {}\n", deck.len());
+        assert!(printed(&spoilt).ends_with(&line));
+        deck.extend(command);
+    }
+    assert!(!printed(&deck).contains("deck"));
+}
+
+#[test]
+fn command_is_cut_short_at_each_operand_byte() {
+    for (command, width) in one_of_each() {
+        for length in 1..width {
+            let short = &command[..length];
+            assert_eq!(printed(short), "deck 19 0\n");
+            let later = [issue(3), open(), short.to_vec()].concat();
+            assert_eq!(printed(&later), "issue 0\nopen 1\ndeck 19 3\n");
+        }
+        assert!(!printed(&command).contains("deck"));
+    }
+}
+
+#[test]
+fn second_pool_is_one_too_many() {
+    let first = pool(2, 2, 1, 400_000_000, 7);
+    assert_eq!(printed(&first), "");
+    let twice = [first.clone(), first.clone()].concat();
+    assert_eq!(printed(&twice), "deck 20 10\n");
+    let later = [first.clone(), cut(0), open(), first].concat();
+    assert_eq!(printed(&later), "open 2\ndeck 20 16\n");
+}
+
+#[test]
+fn each_list_has_a_most() {
+    let lists = [
+        (cut(1), 9),
+        (hazard(1), 125),
+        (step(1, 1), 3_650),
+        (coupon(1), 9),
+    ];
+    for (command, most) in &lists {
+        let full = command.repeat(*most);
+        assert_eq!(printed(&full), "");
+        let line = format!("deck 20 {}\n", full.len());
+        assert_eq!(printed(&command.repeat(most + 1)), line);
+        // A pool with smaller numbers does not lower it.
+        let with_pool = [pool(1, 1, 1, 0, 0), command.repeat(most + 1)].concat();
+        let line = format!("deck 20 {}\n", full.len() + 10);
+        assert_eq!(printed(&with_pool), line);
+    }
+    // A full list leaves the others their room.
+    let mut all = pool(2, 2, 1, 0, 7);
+    for (command, most) in &lists {
+        all.extend(command.repeat(*most));
+    }
+    assert_eq!(printed(&[all, open()].concat()), "open 2\n");
+}
+
+#[test]
+fn oversized_deck_prints_one_line_only() {
+    let most = vec![0x08; 65_536];
+    assert_eq!(printed(&most), "open 1\n".repeat(65_536));
+    for length in [65_537, 65_538, 100_000, 1 << 20] {
+        // Whatever is in it: calls, an unknown command, one cut short.
+        assert_eq!(printed(&vec![0x08; length]), "deck 20 65536\n");
+        assert_eq!(printed(&vec![0xEE; length]), "deck 20 65536\n");
+        let mut cut_short = vec![0x08; length];
+        cut_short[length - 1] = 0x01;
+        assert_eq!(printed(&cut_short), "deck 20 65536\n");
+    }
+    // The last command may end with the last byte allowed.
+    let mut brim = vec![0x08; 65_534];
+    brim.extend(issue(4));
+    assert!(printed(&brim).ends_with("open 1\nissue 0\n"));
+    brim.pop();
+    assert!(printed(&brim).ends_with("open 1\ndeck 19 65534\n"));
+}
+
+/// 18, then 19, then 20, for one command after another.
+#[test]
+fn deck_refusals_come_in_order() {
+    // Unknown: there is no telling whether it is cut short.
+    assert_eq!(printed(&[0x08, 0x0D]), "open 1\ndeck 18 1\n");
+    // One too many, but cut short.
+    let first = pool(2, 2, 1, 0, 7);
+    for length in 1..first.len() {
+        let deck = [&first, &first[..length]].concat();
+        assert_eq!(printed(&deck), "deck 19 10\n");
+    }
+    let lists = [
+        (cut(1), 9),
+        (hazard(1), 125),
+        (step(1, 1), 3_650),
+        (coupon(1), 9),
+    ];
+    for (command, most) in lists {
+        let full = command.repeat(most);
+        for length in 1..command.len() {
+            let deck = [&full[..], &command[..length]].concat();
+            assert_eq!(printed(&deck), format!("deck 19 {}\n", full.len()));
+        }
+        // The first command at fault is named, whatever comes later.
+        let deck = [&full[..], &command[..], &[0x0D]].concat();
+        assert_eq!(printed(&deck), format!("deck 20 {}\n", full.len()));
+    }
+    assert_eq!(printed(&[0x0D, 0x01]), "deck 18 0\n");
+}
+
+#[test]
+fn deck_refusal_stops_the_run_and_keeps_earlier_lines() {
+    let (before, after) = (worked_calls().concat(), worked_calls().concat());
+    let sheet = sheet_deck(&worked::sheet());
+    let offset = sheet.len() + before.len();
+    let deck = [sheet, before, vec![0x20], after].concat();
+    assert_eq!(
+        printed(&deck),
+        format!("{WORKED_LISTING}deck 18 {offset}\n")
+    );
+}
+
+/// All its figures are zero then, so check 1 fails first; the register works
+/// all the same.
+#[test]
+fn deck_without_a_pool_is_refused_its_pool() {
+    let calls = [
+        issue(0),
+        open(),
+        back(0),
+        value(0, 0),
+        delta(0, 0),
+        forward(0, 0),
+        issue(0),
+        withdraw(0),
+        withdraw(0),
+        issue(0),
+        open(),
+    ];
+    let expected = "\
+issue 0
+open 1
+back 1
+value 1
+delta 1
+forward 1
+issue 17
+withdraw 0
+withdraw 9
+issue 9
+open 1
+";
+    assert_eq!(printed(&calls.concat()), expected);
+    // Nor do lists make a pool.
+    let lists = lists_of(&worked::sheet()).concat().concat();
+    assert_eq!(printed(&[lists, calls.concat()].concat()), expected);
+}
+
+#[test]
+fn pool_beyond_its_limits_is_refused_in_every_call() {
+    let calls = [open(), back(0), value(0, 0), delta(0, 0), forward(0, 0)].concat();
+    let expected = "open 1\nback 1\nvalue 1\ndelta 1\nforward 1\n";
+    for (names, steps, tranches) in [
+        (0, 2, 1),
+        (126, 2, 1),
+        (255, 2, 1),
+        (2, 0, 1),
+        (2, 3_651, 1),
+        (2, 65_535, 1),
+        (2, 2, 0),
+        (2, 2, 9),
+        (2, 2, 255),
+        (255, 65_535, 255),
+    ] {
+        let deck = [pool(names, steps, tranches, 0, 0), calls.clone()].concat();
+        assert_eq!(printed(&deck), expected);
+    }
+}
+
+/// Merges lists at random; each keeps its own order.
+fn shuffled(random: &mut Random, mut lists: Vec<Vec<Vec<u8>>>) -> Vec<u8> {
+    let mut merged = Vec::new();
+    while !lists.is_empty() {
+        let draw = random.between(0, lists.len() as u64 - 1) as usize;
+        if lists[draw].is_empty() {
+            lists.remove(draw);
+        } else {
+            merged.extend(lists[draw].remove(0));
+        }
+    }
+    merged
+}
+
+#[test]
+fn sheet_commands_may_come_in_any_order() {
+    let mut random = Random::new(5);
+    for _ in 0..100 {
+        let mut lists = lists_of(&worked::sheet()).to_vec();
+        lists.push(vec![pool_of(&worked::sheet())]);
+        // The number can be issued before, between or after them.
+        lists.push(vec![issue(7)]);
+        let sheet = shuffled(&mut random, lists);
+        let calls = worked_calls()[1..].concat();
+        let deck = [sheet, calls].concat();
+        assert_eq!(printed(&deck), WORKED_LISTING);
+    }
+}
+
+/// Calls see the sheet as it is when they come.
+#[test]
+fn sheet_commands_may_follow_calls() {
+    let sheet = worked::sheet();
+    let [cuts, hazards, steps, coupons] = lists_of(&sheet).map(|list| list.concat());
+    let deck = [
+        issue(7),
+        open(), // no pool yet
+        pool_of(&sheet),
+        open(),
+        cuts,
+        hazards,
+        open(),
+        forward(0, 0),
+        steps,
+        coupons[..5].to_vec(),
+        open(), // one coupon short
+        coupons[5..].to_vec(),
+        back(1), // whole, but not open
+        open(),
+        back(1),
+        value(0, 0),
+        hazard(0), // one hazard too long, for good
+        value(0, 0),
+        back(1),
+        delta(0, 0),
+        forward(1, 0),
+        open(),
+        withdraw(7),
+        open(),
+        hazard(0),
+        open(),
+    ];
+    let expected = "\
+issue 0
+open 1
+open 2
+open 2
+forward 2
+open 2
+back 11
+open 0
+back 0 1
+value 0 27000000 243000000 27000000000000
+value 2
+back 2
+delta 2
+forward 2
+open 2
+withdraw 0
+open 2
+open 2
+";
+    assert_eq!(printed(&deck.concat()), expected);
+}
+
+#[test]
+fn negative_net_value_is_printed_with_a_minus() {
+    let mut sheet = worked::sheet();
+    sheet.coupons = vec![10_000_000, 10_000_000];
+    let calls = [issue(7), open(), back(2), value(0, 0), value(1, 0)];
+    // 10^7 x (54300000 - 218700000) and 10^7 x (59700000 - 805500000)
+    let expected = "\
+issue 0
+open 0
+back 0 0
+value 0 54300000 218700000 -1644000000000000
+value 0 59700000 805500000 -7458000000000000
+";
+    assert_eq!(printed_after(&sheet, &calls), expected);
+    sheet.hazards = vec![0, 0];
+    sheet.discounts = vec![1_000_000_000, 1_000_000_000];
+    let expected = "\
+issue 0
+open 0
+back 0 0
+value 0 0 300000000 -3000000000000000
+value 0 0 1000000000 -10000000000000000
+";
+    assert_eq!(printed_after(&sheet, &calls), expected);
+}
+
+/// The first default takes all of the tranche, so a second moves nothing.
+#[test]
+fn ratio_of_zero_is_printed_without_a_sign() {
+    let calls = [issue(7), open(), back(2), delta(0, 1), delta(1, 1)];
+    let expected = "issue 0\nopen 0\nback 0 0\ndelta 0 0\ndelta 0 1000000\n";
+    assert_eq!(printed_after(&worked::sheet(), &calls), expected);
+}
+
+#[test]
+fn forward_refuses_the_count_last() {
+    let calls = [
+        forward(2, 3),
+        issue(7),
+        forward(0, 0),
+        forward(0, 1),
+        forward(1, 0),
+        forward(1, 1),
+        forward(2, 2),
+        forward(2, 3),
+        forward(2, 255),
+        forward(3, 0),
+        forward(3, 3),
+        forward(65_535, 255),
+        withdraw(7),
+        forward(3, 3),
+    ];
+    let expected = "\
+forward 10
+issue 0
+forward 0 1000000000
+forward 0 0
+forward 0 900000000
+forward 0 100000000
+forward 0 20000000
+forward 14
+forward 14
+forward 13
+forward 13
+forward 13
+withdraw 0
+forward 9
+";
+    assert_eq!(printed_after(&worked::sheet(), &calls), expected);
+}
+
+/// A walk belongs to the number of the pool; the register to all numbers.
+#[test]
+fn calls_print_their_refusals() {
+    let calls = [
+        open(),
+        back(0),
+        value(0, 0),
+        delta(0, 0),
+        withdraw(7),
+        issue(8),
+        withdraw(8),
+        issue(8),
+        issue(7),
+        issue(7),
+        back(0),
+        value(0, 0),
+        delta(0, 0),
+        open(),
+        back(3),
+        back(0),
+        back(1),
+        back(2),
+        back(65_535),
+        value(2, 0),
+        value(0, 3),
+        value(1, 2),
+        delta(2, 0),
+        delta(0, 2),
+        delta(255, 255),
+        open(),
+        back(2),
+        back(1),
+        withdraw(7),
+        open(),
+        back(0),
+        delta(0, 0),
+    ];
+    let expected = "\
+open 10
+back 10
+value 10
+delta 10
+withdraw 10
+issue 0
+withdraw 0
+issue 9
+issue 0
+issue 17
+back 11
+value 11
+delta 11
+open 0
+back 13
+back 0 2
+back 0 1
+back 13
+back 13
+value 14
+value 14
+value 0 0 0 0
+delta 14
+delta 14
+delta 14
+open 0
+back 0 0
+back 13
+withdraw 0
+open 9
+back 9
+delta 9
+";
+    assert_eq!(printed_after(&worked::sheet(), &calls), expected);
+}
+
+#[test]
+fn faults_of_the_sheet_print_their_refusals() {
+    type Fault = fn(&mut Sheet);
+    let faults: [(Refusal, Fault); 10] = [
+        (Refusal::Recovery, |s| s.recovery = B + 1),
+        (Refusal::Cuts, |s| s.attachments[1] = 0),
+        (Refusal::Cuts, |s| s.attachments[1] = B + 1),
+        (Refusal::Hazard, |s| s.hazards[1] = u64::from(u32::MAX)),
+        (Refusal::Discount, |s| s.discounts[0] = 0),
+        (Refusal::Discount, |s| s.discounts[0] = B + 1),
+        (Refusal::Accrual, |s| s.accruals[1] = 0),
+        (Refusal::Accrual, |s| s.accruals[0] = B + 1),
+        (Refusal::Coupon, |s| s.coupons[0] = 10_000_001),
+        (Refusal::Coupon, |s| s.coupons[1] = u64::from(u32::MAX)),
+    ];
+    for (refusal, fault) in faults {
+        let mut sheet = worked::sheet();
+        fault(&mut sheet);
+        let number = refusal.number();
+        let calls = [open(), back(0), value(0, 0), delta(0, 0), forward(0, 0)];
+        let expected = format!(
+            "open {number}\nback {number}\nvalue {number}\ndelta {number}\nforward {number}\n"
+        );
+        assert_eq!(printed_after(&sheet, &calls), expected);
+    }
+}
+
+/// One name that defaults in each step with an even chance. The index leg
+/// lacks 600000000 / 2^steps of a sure loss, rounded down: 1 unit after 29
+/// steps, 0 after 30. The tranche still earns its first coupons.
+#[test]
+fn ratio_can_be_off_scale_and_then_flat() {
+    for (steps, line) in [(29, "delta 16\n"), (30, "delta 15\n")] {
+        let mut sheet = plain_sheet(1, steps, 1);
+        sheet.number = 7;
+        sheet.attachments = vec![0, 300_000_000];
+        sheet.hazards = vec![500_000_000];
+        sheet.discounts = vec![B; steps];
+        sheet.accruals = vec![1; steps];
+        sheet.accruals[0] = B;
+        sheet.coupons = vec![10_000_000, 0];
+        let calls = [issue(7), open(), back(steps as u16), delta(0, 0)];
+        let expected = format!("issue 0\nopen 0\nback 0 0\n{line}");
+        assert_eq!(printed_after(&sheet, &calls), expected);
+    }
+}
+
+#[test]
+fn largest_sheet_runs_from_a_deck() {
+    let mut sheet = plain_sheet(125, 3_650, 8);
+    sheet.number = 255;
+    let mut rows = Rows::zero(&sheet);
+    roll_back(&sheet, &mut rows, 3_650, 3_650);
+    let mut expected = String::from("issue 0\nopen 0\nback 0 3649\nback 0 0\n");
+    let mut calls = vec![issue(255), open(), back(1), back(3_649)];
+    for (tranche, count) in [(0, 0), (7, 60), (8, 0), (8, 124), (3, 125)] {
+        let default = default_leg(&sheet, &rows, tranche, count);
+        let premium = premium_leg(&sheet, &rows, tranche, count);
+        let net = net_value(&sheet, &rows, tranche, count);
+        expected += &format!("value 0 {default} {premium} {net}\n");
+        calls.push(value(tranche as u8, count as u8));
+    }
+    let row = distribution(&sheet, 3_650);
+    expected += &format!("forward 0 {}\nforward 0 {}\n", row[0], row[125]);
+    calls.extend([forward(3_650, 0), forward(3_650, 125)]);
+    assert_eq!(printed_after(&sheet, &calls), expected);
+}
+
+/// The same calls made by hand: each line says what the call answers.
+struct ByHand {
+    sheet: Sheet,
+    register: Vec<u8>,
+    walk: Walk,
+    default_row: Vec<u64>,
+    premium_row: Vec<u64>,
+}
+
+impl ByHand {
+    fn new(sheet: &Sheet) -> ByHand {
+        ByHand {
+            sheet: sheet.clone(),
+            register: register::blank(),
+            walk: Walk::fresh(),
+            default_row: vec![0; row_length(sheet)],
+            premium_row: vec![0; row_length(sheet)],
+        }
+    }
+
+    /// A random call as its command, and the line it must print.
+    fn any_call(&mut self, random: &mut Random) -> (Vec<u8>, String) {
+        let number = match random.between(0, 3) {
+            0 => self.sheet.number.wrapping_add(1),
+            _ => self.sheet.number,
+        };
+        let tranche = random.between(0, self.sheet.tranches as u64 + 1) as u8;
+        let count = random.between(0, self.sheet.names as u64 + 1) as u8;
+        let steps = random.between(0, 3) as u16;
+        let ByHand {
+            sheet,
+            register,
+            walk,
+            default_row,
+            premium_row,
+        } = self;
+        match random.between(0, 30) {
+            0..=2 => {
+                let answer = register::issue(register, number);
+                (issue(number), by_hand_line("issue", answer, |()| vec![]))
+            }
+            3 => {
+                let answer = register::withdraw(register, number);
+                let line = by_hand_line("withdraw", answer, |()| vec![]);
+                (withdraw(number), line)
+            }
+            4..=6 => {
+                let (next, answer) = walk::open(*walk, sheet, register, default_row, premium_row);
+                *walk = next;
+                (open(), by_hand_line("open", answer, |()| vec![]))
+            }
+            7..=15 => {
+                let by = usize::from(steps);
+                let (next, answer) =
+                    walk::back(*walk, sheet, register, by, default_row, premium_row);
+                *walk = next;
+                let line = by_hand_line("back", answer, |position| vec![position.to_string()]);
+                (back(steps), line)
+            }
+            16..=22 => {
+                let (_, answer) = walk::value(
+                    *walk,
+                    sheet,
+                    register,
+                    usize::from(tranche),
+                    usize::from(count),
+                    default_row,
+                    premium_row,
+                );
+                let line = by_hand_line("value", answer, |value| {
+                    vec![
+                        value.default.to_string(),
+                        value.premium.to_string(),
+                        value.net.to_string(),
+                    ]
+                });
+                (value(tranche, count), line)
+            }
+            23..=27 => {
+                let (_, answer) = walk::hedge_ratio(
+                    *walk,
+                    sheet,
+                    register,
+                    usize::from(tranche),
+                    usize::from(count),
+                    default_row,
+                    premium_row,
+                );
+                let line = by_hand_line("delta", answer, |ratio| vec![ratio.to_string()]);
+                (delta(tranche, count), line)
+            }
+            _ => {
+                let mut row = vec![0; sheet.names + 1];
+                let answer = walk::forward(sheet, register, usize::from(steps), &mut row);
+                let chance = row.get(usize::from(count)).ok_or(Refusal::OffTree);
+                let answer = answer.and(chance);
+                let line = by_hand_line("forward", answer, |chance| vec![chance.to_string()]);
+                (forward(steps, count), line)
+            }
+        }
+    }
+}
+
+fn by_hand_line<T>(
+    word: &str,
+    answer: Result<T, Refusal>,
+    fields: impl Fn(T) -> Vec<String>,
+) -> String {
+    let mut parts = vec![word.to_string()];
+    match answer {
+        Ok(answer) => {
+            parts.push("0".to_string());
+            parts.extend(fields(answer));
+        }
+        Err(refusal) => parts.push(refusal.number().to_string()),
+    }
+    parts.join(" ") + "\n"
+}
+
+#[test]
+fn listing_says_what_the_calls_answer() {
+    let mut random = Random::new(1);
+    let mut accepted = 0;
+    let mut negative = 0;
+    for _ in 0..500 {
+        let sheet = random.small_sheet();
+        let mut by_hand = ByHand::new(&sheet);
+        let mut deck = sheet_deck(&sheet);
+        let mut expected = String::new();
+        for _ in 0..60 {
+            let (command, line) = by_hand.any_call(&mut random);
+            accepted += usize::from(line.split_whitespace().nth(1) == Some("0"));
+            negative += usize::from(line.contains('-'));
+            deck.extend(command);
+            expected += &line;
+        }
+        assert_eq!(printed(&deck), expected);
+    }
+    assert!(accepted > 5_000);
+    assert!(negative > 100);
+}
+
+/// Words, how many figures an accepted call answers, and fields in the one
+/// decimal form a number has. A deck line can only be the last.
+fn assert_well_formed(listing: &str) {
+    let words = [
+        ("issue", 0),
+        ("withdraw", 0),
+        ("open", 0),
+        ("back", 1),
+        ("value", 3),
+        ("delta", 1),
+        ("forward", 1),
+    ];
+    assert!(listing.is_empty() || listing.ends_with('\n'));
+    let lines: Vec<&str> = listing.split_terminator('\n').collect();
+    for (place, line) in lines.iter().enumerate() {
+        let mut fields = line.split(' ');
+        let word = fields.next().unwrap();
+        let mut figures = Vec::new();
+        for field in fields {
+            let figure: i128 = field.parse().unwrap();
+            assert_eq!(figure.to_string(), field);
+            figures.push(figure);
+        }
+        if word == "deck" {
+            assert_eq!(place + 1, lines.len());
+            assert_eq!(figures.len(), 2);
+            assert!((18..=20).contains(&figures[0]));
+            continue;
+        }
+        let (_, answers) = words.iter().find(|(known, _)| *known == word).unwrap();
+        if figures[0] == 0 {
+            assert_eq!(figures.len(), 1 + answers);
+        } else {
+            assert_eq!(figures.len(), 1);
+            // The program's own rows are never soiled.
+            assert!((1..=17).contains(&figures[0]) && figures[0] != 12);
+        }
+    }
+}
+
+#[test]
+fn random_bytes_are_always_listed() {
+    let mut random = Random::new(18);
+    let mut refused = [0; 21];
+    for _ in 0..50_000 {
+        // Mostly command bytes, or a run would end at its first byte.
+        let share = random.between(0, 10);
+        let length = random.between(0, 120) as usize;
+        let mut deck = Vec::new();
+        for _ in 0..length {
+            let most = if random.between(0, 9) < share {
+                13
+            } else {
+                255
+            };
+            deck.push(random.between(0, most) as u8);
+        }
+        let listing = printed(&deck);
+        assert_well_formed(&listing);
+        if let Some(place) = listing.find("deck ") {
+            let number: usize = listing[place + 5..place + 7].parse().unwrap();
+            refused[number] += 1;
+        }
+    }
+    assert!(refused[18] > 1_000);
+    assert!(refused[19] > 1_000);
+    assert!(refused[20] > 100);
+}
+
+/// A good deck with some bytes spoilt, so that runs get farther.
+#[test]
+fn spoilt_decks_are_always_listed() {
+    let mut random = Random::new(19);
+    let mut accepted_lines = 0;
+    for _ in 0..20_000 {
+        let mut deck = worked_deck();
+        for _ in 0..random.between(1, 3) {
+            let place = random.between(0, deck.len() as u64 - 1) as usize;
+            match random.between(0, 3) {
+                0 => drop(deck.drain(place..=place)),
+                1 => deck.insert(place, random.between(0, 255) as u8),
+                2 => deck[place] = random.between(0, 13) as u8,
+                _ => deck[place] = random.between(0, 255) as u8,
+            }
+        }
+        let listing = printed(&deck);
+        assert_well_formed(&listing);
+        accepted_lines += listing.matches("value 0").count();
+    }
+    assert!(accepted_lines > 1_000);
+}
