@@ -13,8 +13,11 @@ use Rattle.tree.specs.Sheet.{Sheet, hazardOf, treeOf}
 use Rattle.tree.specs.Forward.{same, moved, fromBelow, pushed, distribution}
 use Rattle.rows.specs.Tables.{tab}
 use Rattle.rows.specs.Rows.{spreadRow}
+use Rattle.rows.proofs.Tables.{length-tab, getD-tab, is-tab}
 use Rattle.forward.specs.Steps.{hazardSheet, pushedRow}
-use Rattle.forward.proofs.Tabled.{length-tab, getD-tab, tab-cong}
+
+tab-cong : (n : ℕ) (f g : ℕ → ℕ) → ((i : ℕ) → i < n → f i ≡ g i) → tab n f ≡ tab n g
+tab-cong n f g h = is-tab (tab n f) n g (length-tab n f) (λ i l. getD-tab n f i l ∙ h i l)
 
 -- two trees with the same hazards at steps s and r, and two rows that agree on the first n counts
 module _ (t u : Tree) (s r : ℕ) (alike : (k : ℕ) → t .hazard s k ≡ u .hazard r k) (q p : ℕ → ℕ) (n : ℕ) (agree : (k : ℕ) → k < n → q k ≡ p k) where

@@ -1,5 +1,3 @@
-pub mod Tabled
-pub mod Filled
 pub mod Moves
 pub mod Alike
 pub mod Totals

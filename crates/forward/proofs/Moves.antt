@@ -16,8 +16,8 @@ use Rattle.cash.proofs.Rounding.{half-most, half-whole}
 use Rattle.tree.specs.Paths.{Tree}
 use Rattle.tree.specs.Sheet.{treeOf, hazardOf}
 use Rattle.tree.specs.Forward.{same, moved, fromBelow, pushed}
+use Rattle.rows.proofs.Tables.{is-tab}
 use Rattle.forward.specs.Steps.{hazardSheet, pushedRow}
-use Rattle.forward.proofs.Tabled.{is-tab}
 
 half-none : half 0 ≡ 0
 half-none = ap half (sym (mul-zero B)) ∙ half-whole 0

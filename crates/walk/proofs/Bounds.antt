@@ -1,11 +1,11 @@
 -- From the limits of a sheet that was brought to those that the rows need. Assumes nothing.
 use mathlib.Core.Path.{_≡_, sym, _∙_, ap, subst}
 use mathlib.Core.List.{List}
-use Prim.Native.Nat.{ℕ, suc, _+_, _*_, _≤_, _<_}
+use Prim.Native.Nat.{ℕ, _+_, _*_, _≤_, _<_}
 use native.Mathlib.Numerals.{add-one}
-use native.Mathlib.Nat.{mul-le-mul, mul-le-mul-right}
+use native.Mathlib.Nat.{mul-le-mul-right}
 use native.Mathlib.Omega.{arith}
-use lib.ListN.{length, getD}
+use lib.ListN.{getD}
 use Rattle.cash.specs.Units.{B}
 use Rattle.tree.specs.Sheet.{Sheet}
 use Rattle.rows.specs.Tables.{entry}
@@ -16,7 +16,8 @@ use Rattle.sheet.specs.Limits.{Limits}
 use Rattle.sheet.proofs.Limits.{within, all-most}
 use Rattle.cash.specs.declared.Node.{Node}
 use Rattle.cash.specs.Hedges.{Figures}
-use Rattle.rows.proofs.Losses.{loss-width, width-most}
+use Rattle.tree.proofs.Sheets.{loss-most}
+use Rattle.rows.proofs.Losses.{width-most}
 use Rattle.walk.specs.Answers as Lent
 use Rattle.walk.specs.Table.{nodeOf}
 use Rattle.walk.specs.Reads.{Readable}
@@ -45,12 +46,6 @@ row-size x e = e ∙ (λ i. add-one (x .tranches) i * add-one (x .names) i)
 pub place-below : (j k r n : ℕ) → j ≤ r → k ≤ n → j * (n + 1) + k < (r + 1) * (n + 1)
 place-below j k r n p q = omega (arith, mul-le-mul-right (n + 1) p)
 
-pub size-few : (r n : ℕ) → r ≤ 8 → n ≤ 125 → (r + 1) * (n + 1) ≤ 1134
-size-few r n p q =
-    let few : r + 1 ≤ 9 = omega arith in
-    let some : n + 1 ≤ 126 = omega arith in
-    mul-le-mul few some
-
 -- An entry is read at its place.
 pub node-place : (x : Sheet) (row : List ℕ) (j k : ℕ) → getD row (j * (x .names + 1) + k) 0 ≡ nodeIn x row j k
 unfolding nodeIn entry
@@ -63,7 +58,7 @@ unfolding nodeOf
 node-figures x l j k t r e =
     subst Figures (sym e)
     (record {
-      loss = omega (arith, loss-width (x .sheet) j k (r .count), width-most (x .sheet) (t .attachment-most) j);
+      loss = omega (arith, loss-most (x .sheet) j k (r .count), width-most (x .sheet) (t .attachment-most) j);
       default = r .default;
       premium = r .premium;
     })

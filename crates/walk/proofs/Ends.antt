@@ -4,16 +4,16 @@ use mathlib.Core.Path.{_≡_, refl, sym, _∙_, ap}
 use mathlib.Core.Bool.{Bool, true, false, _||_}
 use mathlib.Core.List.{List, [], _∷_}
 use native.Mathlib.Omega.{arith}
-use borrow.Author.Tests.{lt-ltb, le-ltb, le-leb, lt-leb, eq-eqb, ne-eqb}
+use borrow.Author.Tests.{lt-ltb, le-ltb, lt-leb}
 use lib.Dec.{leb, ltb, eqb}
 use lib.IntN.{ℤ, natAbs}
 use lib.ListN.{length, getD}
-use Rattle.cash.specs.Units.{B}
 use Rattle.cash.specs.declared.Hedge.the-variants as Hedge
 use Rattle.cash.specs.Hedges.{choose, ratioOf, hedgeOf}
 use Rattle.tree.specs.Sheet.{defaultOf, premiumOf, defaultMost, premiumMost}
 use Rattle.rows.specs.declared.Pool.{Pool}
-use Rattle.rows.specs.Rows.{nodeIn, rolledBack, soiled, spreadRow}
+use Rattle.rows.specs.Tables.{tab, grid}
+use Rattle.rows.specs.Rows.{nodeIn, rowOf, rolledBack, spreadRow}
 use Rattle.rows.specs.Limits as Rows
 use Rattle.rows.proofs.Sums.{sum-drop-most}
 use Rattle.rows.proofs.Losses.{width-most, loss-bare}
@@ -28,15 +28,46 @@ use Rattle.sheet.proofs.Limits.{within}
 use Rattle.walk.specs.declared.Walk.{Walk}
 use Rattle.walk.specs.declared.Answer.the-variants as Answer
 use Rattle.walk.specs.Answers as Lent
-use Rattle.walk.specs.Table.{nodeOf, jump, toTwelve}
-use Rattle.walk.specs.Calls.{rowsOf, tenTests, twelveTests, backTests, valueTests, ratioTests, forwardTests, rowBad, rolls, worth, backCall, valueCall, ratioCall, forwardCall}
+use Rattle.walk.specs.Table.{nodeOf, jump}
+use Rattle.walk.specs.Calls.{rowsOf, tenTests, twelveTests, openTests, backTests, valueTests, ratioTests, forwardTests, rowsBad, rowBad, zeros, rolls, worth, openCall, backCall, valueCall, ratioCall, forwardCall}
 use Rattle.walk.specs.Reads.{Readable, hedgeAnswer}
 use Rattle.walk.proofs.Judging.{stands-fine}
-use Rattle.walk.proofs.Ordering.{OnWay, twelve-stands, twelve-holds, soiled-fine}
+use Rattle.walk.proofs.Ordering.{Opening, OnWay, Forwarding, open-stands, open-holds, twelve-stands, twelve-holds, soiled-fine, forward-stands, forward-holds}
 use Rattle.walk.proofs.Firsts.{twelve-refused, twelve-fine, ten-alike, ten-refused, ten-fine}
-use Rattle.walk.proofs.Ruled.{notDone, notFilled, back-fine, back-refused, value-fine, value-refused, ratio-fine, ratio-refused, forward-fine, forward-refused}
+use Rattle.walk.proofs.Ruled.{notDone, notFilled, open-fine, open-refused, back-fine, back-refused, value-fine, value-refused, ratio-fine, ratio-refused, forward-fine, forward-refused}
 use Rattle.cash.proofs.Jumps.{jump-size}
 use Rattle.walk.proofs.Bounds.{rows-limits, row-size, node-figures}
+
+-- ---- past the first ten checks, and open
+
+-- A list of zeros as long as a row is a row of zeros.
+zero-row : (x : Brought) (row zs : List ℕ) → length row ≡ (x .sheet .tranches + 1) * (x .sheet .names + 1) → zs ≡ tab (length row) (λ i. 0) → zs ≡ rowOf (x .sheet) (λ j k. 0)
+unfolding rowOf grid
+zero-row x row zs long e = e ∙ ap (λ (n : ℕ). tab n (λ i. 0)) (row-size (x .sheet) long)
+
+-- The code tells the lengths of a pool within its limits only.
+module _ (x : Brought) (g : List ℕ) (w : Walk) (l : Lent.Rows) (lent : Bool) (same : poolBad (x .sheet) ≡ false → lent ≡ rowsBad x g l) where
+  open-on : first (openTests x g l) ≡ first (tenTests x g lent [])
+  unfolding openTests
+  open-on = sym (ten-alike x g lent (rowsBad x g l) [] same)
+
+  pub opening : first (tenTests x g lent []) ≡ Fine → Opening x g l
+  opening e = open-holds x g l .0 (stands-fine _ _ (open-stands x g l) .0 (open-on ∙ e))
+
+  pub open-not : {f : Refusal} → first (tenTests x g lent []) ≡ Refused f → notDone f w l ≡ openCall x g w l
+  open-not e = sym (open-refused x g w l _ (open-on ∙ e))
+
+  pub open-done : first (tenTests x g lent []) ≡ Fine → (ds ps : List ℕ) → ds ≡ tab (length (l .defaults)) (λ i. 0) → ps ≡ tab (length (l .premiums)) (λ i. 0) →
+      record { answer = Answer.Done; walk = record { «open» = true; number = x .number; position = x .sheet .steps }; rows = rowsOf ds ps } ≡ openCall x g w l
+  unfolding zeros
+  open-done e ds ps d p =
+      let fit = opening e .lent in
+      (λ i. record {
+        answer = Answer.Done;
+        walk = record { «open» = true; number = x .number; position = x .sheet .steps };
+        rows = rowsOf (zero-row x (l .defaults) ds (fit .defaults) d i) (zero-row x (l .premiums) ps (fit .premiums) p i);
+      })
+      ∙ sym (open-fine x g w l (open-on ∙ e))
 
 -- ---- past the first twelve checks
 
@@ -143,13 +174,6 @@ module _ (x : Brought) (g : List ℕ) (w : Walk) (l : Lent.Rows) where
     unfolding ratioTests
     ratio-off j k h = sym (ratio-refused x g w l j k _ (twelve-fine x g w l _ e ∙ first-met _ _ _ h))
 
--- Off the tree by the tranche, or by the count.
-pub off-tranche : (a b : Bool) → a ≡ true → (a || b) ≡ true
-off-tranche a b e = simp e
-
-pub off-count : (a b : Bool) → a ≡ false → b ≡ true → (a || b) ≡ true
-off-count a b e f = simp (e, f)
-
 -- The hedge ratio where its node is on the tree: 15, 16 or the ratio.
 module _ (x : Brought) (g : List ℕ) (w : Walk) (l : Lent.Rows) (e : first (twelveTests x g w l []) ≡ Fine) (j k : ℕ) (p : j ≤ x .sheet .tranches) (q : k < x .sheet .names) where
   abbrev own : ℤ
@@ -188,8 +212,15 @@ module _ (x : Brought) (g q : List ℕ) (lent : Bool) (same : poolBad (x .sheet)
     pub forward-out : x .sheet .steps < i → notFilled Refusal.OutOfSteps q ≡ forwardCall x g q i
     forward-out h = sym (forward-refused x g q i _ (ten-on ∙ first-met _ _ _ (lt-ltb _ _ h)))
 
-    pub forward-done : i ≤ x .sheet .steps → (row : List ℕ) → row ≡ spreadRow (x .sheet) i → record { answer = Answer.Done; row = row } ≡ forwardCall x g q i
-    forward-done h row r = (λ k. record { answer = Answer.Done; row = r k }) ∙ sym (forward-fine x g q i (ten-on ∙ first-passed _ _ _ (le-ltb _ _ h) ∙ first-none))
+    module _ (h : i ≤ x .sheet .steps) where
+      all-passed : first (forwardTests x g q i) ≡ Fine
+      all-passed = ten-on ∙ first-passed _ _ _ (le-ltb _ _ h) ∙ first-none
+
+      pub forwarding : Forwarding x g q i
+      forwarding = forward-holds x g q i .0 (stands-fine _ _ (forward-stands x g q i) .0 all-passed)
+
+      pub forward-done : (row : List ℕ) → row ≡ spreadRow (x .sheet) i → record { answer = Answer.Done; row = row } ≡ forwardCall x g q i
+      forward-done row r = (λ k. record { answer = Answer.Done; row = r k }) ∙ sym (forward-fine x g q i all-passed)
 
 -- ---- how large a jump is
 

@@ -1,9 +1,9 @@
 -- The first refusal of the checks 1 to 12, check by check. Assumes nothing.
 use mathlib.Core.Path.{_≡_, refl, sym, _∙_, ap}
-use mathlib.Core.Bool.{Bool, true, false, not, _||_}
+use mathlib.Core.Bool.{Bool, true, false}
 use mathlib.Core.List.{List, [], _∷_, _++_}
 use Prim.Native.Nat.{ℕ}
-use borrow.Author.Tests.{eq-eqb, ne-eqb}
+use borrow.Author.Tests.{eq-eqb}
 use lib.Dec.{ltb}
 use Rattle.rows.specs.Rows.{soiled}
 use Rattle.register.specs.declared.answers.Status.{Status}
@@ -15,7 +15,7 @@ use Rattle.sheet.specs.declared.Refusal.{Refusal}
 use Rattle.sheet.specs.declared.Refusal.the-variants as Refusal
 use Rattle.sheet.specs.declared.Found.{Found}
 use Rattle.sheet.specs.declared.Found.the-variants.{Fine, Refused}
-use Rattle.sheet.specs.Tests.{Test, first, poolBad, listsBad, sheetTests}
+use Rattle.sheet.specs.Tests.{Test, first, poolBad, sheetTests}
 use Rattle.sheet.proofs.Firsts.{joined-refused, joined-fine, sheet-refused, sheet-fine, first-none, first-met, first-passed}
 use Rattle.walk.specs.declared.Walk.{Walk}
 use Rattle.walk.specs.Answers.{Rows}
@@ -67,20 +67,12 @@ module _ (x : Brought) (g : List ℕ) (lent : Bool) where
 
 -- ---- check 11
 
-module _ (x : Brought) (w : Walk) where
-  pub walk-closed : w .«open» ≡ false → true ≡ walkBad x w
-  unfolding walkBad
-  walk-closed e = simp e
+-- Of an open walk with the sheet's number, the position decides.
+pub walk-steps : (x : Brought) (w : Walk) → w .«open» ≡ true → w .number ≡ x .number → ltb (x .sheet .steps) (w .position) ≡ walkBad x w
+unfolding walkBad
+walk-steps x w e h = simp (e, eq-eqb (w .number) (x .number) h)
 
-  pub walk-other : w .«open» ≡ true → (w .number ≡ x .number → ⊥) → true ≡ walkBad x w
-  unfolding walkBad
-  walk-other e h = simp (e, ne-eqb (w .number) (x .number) h)
-
-  pub walk-steps : w .«open» ≡ true → w .number ≡ x .number → ltb (x .sheet .steps) (w .position) ≡ walkBad x w
-  unfolding walkBad
-  walk-steps e h = simp (e, eq-eqb (w .number) (x .number) h)
-
--- It rests on the pool and the walk alone.
+-- The check rests on the pool and the walk alone.
 pub walk-told : (pool : Pool) (attachments hazards discounts accruals coupons : List ℕ) (w : Walk) {r : Bool} → r ≡ walkBad (brought pool [] [] [] [] []) w → r ≡ walkBad (brought pool attachments hazards discounts accruals coupons) w
 unfolding walkBad
 walk-told pool attachments hazards discounts accruals coupons w e = e

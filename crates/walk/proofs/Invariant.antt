@@ -13,6 +13,7 @@ use lib.Seq.{getD-set-other}
 use lib.Dec.{eqb}
 use borrow.Author.Tests.{eqb-true}
 use Rattle.register.specs.Rules.{Unissued, Live}
+use Rattle.register.proofs.Masks.{both}
 use Rattle.sheet.specs.Brought.{Brought}
 use Rattle.sheet.specs.Limits.{Limits}
 use Rattle.walk.specs.declared.Walk.{Walk}
@@ -21,7 +22,7 @@ use Rattle.walk.specs.Does.{Entered, Moved, Walks, Issues, Withdraws, Op
 use Rattle.walk.specs.Engine.{Engine}
 use Rattle.walk.specs.Lists.{Lent, same, other, lent, kept, Call, issue, withdraw, opening, back, value, State, entered, begun, went, turn, History, isSame, noted, after, told, nothing, Run, end, history}
 use Rattle.walk.specs.Promise.{Rules}
-use Rattle.walk.proofs.Orders.{issue-holds, open-holds, back-holds}
+use Rattle.walk.proofs.Taken.{issue-taken, open-taken, back-taken}
 use Rattle.walk.proofs.Steps.{Holding, walks, zeros-hold}
 
 -- How the walk on x stands: the position is what is left of the steps, and the rows hold D and A where back and value were lent them.
@@ -63,15 +64,16 @@ unissued-some g y u e = omega (arith, u .byte)
 pub live-some : (g : List ℕ) (y : ℕ) → Live g y → getD g y 0 ≢ 0
 live-some g y u e = omega (arith, u .byte)
 
+-- A byte 00 says withdrawn.
+pub zero-gone : (g : List ℕ) (y : ℕ) → getD g y 0 ≡ 0 → ¬ (Unissued g y ⊎ Live g y)
+zero-gone g y e (inl u) = unissued-some g y u e
+zero-gone g y e (inr l) = live-some g y l e
+
 -- ---- Booleans
 
 pub or-cases : (a b : Bool) → (a || b) ≡ true → (a ≡ true) ⊎ (b ≡ true)
 or-cases true b e = inl refl
 or-cases false b e = inr e
-
-pub both : (a b : Bool) → (a && b) ≡ true → (a ≡ true) × (b ≡ true)
-both true b e = (refl, e)
-both false b e = absurd (false≢true e)
 
 -- ---- the rows lent
 
@@ -102,7 +104,7 @@ module _ (book : ℕ → Brought) (bears : (y : ℕ) → book y .number ≡ y) (
       go : (b : Bool) → accepted (o .said) ≡ b → Inv book (record { register = o .register; walk = s .walk; rows = s .rows }) k
       go true e =
           let d = r .writes .does e .1 in
-          let u = issue-holds (s .register) y (o .said) (r .judged) e in
+          let u = issue-taken (s .register) y o r .0 e in
           record {
             size = ap length d ∙ length-set (s .register) y 0xA5 ∙ inv .size;
             out = λ z p. ap (λ g. getD g z 0) d ∙ zero-stays (s .register) y z 0xA5 (unissued-some _ _ u) (inv .out z p);
@@ -152,7 +154,7 @@ module _ (book : ℕ → Brought) (bears : (y : ℕ) → book y .number ≡ y) (
                 subst (λ v. Stands (book v) (record { opened = some y; walked = 0; own = true; gone = k .gone }) (record { register = s .register; walk = o .walk; rows = o .rows }))
                 (Option·some-injective y z p)
                 (record {
-                  limits = open-holds (book y) (s .register) (s .walk) (lent t (s .rows)) (o .said) (r .judged) e .limits;
+                  limits = open-taken (book y) (s .register) (s .walk) (lent t (s .rows)) o r .0 e .limits;
                   opened = ap (λ w. w .«open») (d .walk);
                   number = ap (λ w. w .number) (d .walk);
                   place = rw (d .walk) (add-zero (book y .sheet .steps));
@@ -179,14 +181,14 @@ module _ (book : ℕ → Brought) (bears : (y : ℕ) → book y .number ≡ y) (
           (record { opened = k .opened; walked = cond (accepted (o .said)) (k .walked + c) (k .walked); own = k .own && isSame t; gone = k .gone })
       go true e =
           let d = r .does e in
-          let a = back-holds (book y) (s .register) (s .walk) (lent t (s .rows)) (o .said) c (r .judged) e in
+          let a = back-taken (book y) (s .register) (s .walk) (lent t (s .rows)) o c r .0 e in
           record {
             size = inv .size;
             out = inv .out;
             stood = λ z p.
                 let q = inv .stood z p in
-                let far : c ≤ s .walk .position = a .steps in
-                let z=y : z ≡ y = sym (bears z) ∙ sym (q .number) ∙ a .walk .number ∙ bears y in
+                let far : c ≤ s .walk .position = a .1 in
+                let z=y : z ≡ y = sym (bears z) ∙ sym (q .number) ∙ a .0 .walk .number ∙ bears y in
                 record {
                   limits = q .limits;
                   opened = rw (d .walk) (q .opened);

@@ -6,7 +6,8 @@ use mathlib.Core.List.{List, [], _∷_, _++_}
 use mathlib.Core.Logic.{_↔_, _⊎_, inl, inr}
 use native.Mathlib.Nat.{le-of-eq, le-trans}
 use lib.Dec.{eqb, leb}
-use borrow.Author.Tests.{eq-eqb, eqb-true, leb-true, not-true}
+use borrow.Author.Tests.{eq-eqb, leb-true, not-true}
+use Rattle.register.proofs.Masks.{both}
 use Rattle.sheet.specs.declared.Refusal.{Refusal}
 use Rattle.sheet.specs.declared.Refusal.the-variants.{Pool, Length, Recovery, Attachments, Hazard, Discount, Accrual, Coupon, Withdrawn, Unissued, NoWalk, OverCeiling, OutOfSteps, OffTree, FlatHedge, OffScale}
 use Rattle.sheet.specs.declared.Found.the-variants.{Fine, Refused}
@@ -40,23 +41,12 @@ refusal-some OffTree = refl
 refusal-some FlatHedge = refl
 refusal-some OffScale = refl
 
-pub accepted-number : (a : Said) → accepted a ≡ true → a .number ≡ 0
-accepted-number a e = eqb-true (a .number) 0 e
-
 pub number-accepted : (a : Said) → a .number ≡ 0 → accepted a ≡ true
 number-accepted a e = eq-eqb (a .number) 0 e
 
 pub either : (b : Bool) → (b ≡ true) ⊎ (b ≡ false)
 either true = inl refl
 either false = inr refl
-
-and-left : (a b : Bool) → (a && b) ≡ true → a ≡ true
-and-left true b e = refl
-and-left false b e = e
-
-and-right : (a b : Bool) → (a && b) ≡ true → b ≡ true
-and-right true b e = e
-and-right false b e = absurd (false≢true e)
 
 -- ---- orders
 
@@ -71,21 +61,10 @@ numbered [] = true
 numbered (t ∷ l) = not (eqb (t .1) 0) && numbered l
 
 head-some : (t : Type 0 × ℕ) (l : Order) → numbered (t ∷ l) ≡ true → eqb (t .1) 0 ≡ false
-head-some t l e = not-true (eqb (t .1) 0) (and-left (not (eqb (t .1) 0)) (numbered l) e)
+head-some t l e = not-true (eqb (t .1) 0) (both (not (eqb (t .1) 0)) (numbered l) e .0)
 
 tail-some : (t : Type 0 × ℕ) (l : Order) → numbered (t ∷ l) ≡ true → numbered l ≡ true
-tail-some t l e = and-right (not (eqb (t .1) 0)) (numbered l) e
-
--- Of the first rule: where it is broken the call is refused by its number, and else the others judge it.
-pub judged-broken : (K : Type 0) (n : ℕ) (l : Order) (a : Said) → ¬ K → Judges ((K, n) ∷ l) a → a ≡ refusal n
-unfolding Judges
-judged-broken K n l a h (inl p) = p .1
-judged-broken K n l a h (inr p) = absurd (h (p .0))
-
-pub judged-kept : (K : Type 0) (n : ℕ) (l : Order) (a : Said) → K → Judges ((K, n) ∷ l) a → Judges l a
-unfolding Judges
-judged-kept K n l a h (inl p) = absurd (p .0 h)
-judged-kept K n l a h (inr p) = p .1
+tail-some t l e = both (not (eqb (t .1) 0)) (numbered l) e .1
 
 -- A call that keeps to every rule of its order is accepted.
 pub holds-accepted : (m : Order) (a : Said) → Judges m a → Holds m → accepted a ≡ true
@@ -117,10 +96,10 @@ broken-refused [] K n rest a s u h (inl p) = (ap accepted (p .1) ∙ head-some (
 broken-refused [] K n rest a s u h (inr p) = absurd (h (p .0))
 broken-refused (t ∷ m) K n rest a s u h (inl p) = (
   ap accepted (p .1) ∙ head-some t (m ++ ((K, n) ∷ rest)) s,
-  le-trans (le-of-eq (ap (λ (b : Said). b .number) (p .1))) (leb-true (t .1) n (and-left (leb (t .1) n) (upTo n m) u)),
+  le-trans (le-of-eq (ap (λ (b : Said). b .number) (p .1))) (leb-true (t .1) n (both (leb (t .1) n) (upTo n m) u .0)),
 )
 broken-refused (t ∷ m) K n rest a s u h (inr p) =
-    broken-refused m K n rest a (tail-some t (m ++ ((K, n) ∷ rest)) s) (and-right (leb (t .1) n) (upTo n m) u) h (p .1)
+    broken-refused m K n rest a (tail-some t (m ++ ((K, n) ∷ rest)) s) (both (leb (t .1) n) (upTo n m) u .1) h (p .1)
 
 -- Two answers to one order: both refused and the same, or both accepted.
 abbrev pub Alike : Said → Said → Type 0

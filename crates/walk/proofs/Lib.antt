@@ -1,8 +1,6 @@
 pub mod Lengths
 pub mod Firsts
-pub mod Passed
 pub mod Bounds
-pub mod Opened
 pub mod Judging
 pub mod Walking
 pub mod Ordering
@@ -10,11 +8,12 @@ pub mod Ruled
 pub mod One
 pub mod Taken
 pub mod Ends
-pub mod Orders
 pub mod Steps
 pub mod Invariant
 pub mod Owed
 pub mod Served
 pub mod Power
 pub mod Kept
+pub mod Risk
+pub mod Ours
 pub mod Tied

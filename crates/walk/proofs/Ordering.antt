@@ -5,14 +5,14 @@ use mathlib.Core.Bool.{Bool, true, false, not, _||_, true≢false}
 use mathlib.Core.List.{List, [], _∷_}
 use mathlib.Core.Logic.{_↔_, Iff·trans, _⊎_, inl, inr}
 use native.Mathlib.Omega.{arith}
-use native.Mathlib.Decide.{ℕ-discrete}
 use lib.ListN.{length, getD}
 use lib.IntN.{natAbs}
 use borrow.Author.Tests.{eqb-false, ne-eqb, not-false}
 use Rattle.register.specs.declared.answers.Status.{Status}
 use Rattle.register.specs.declared.answers.Status.the-variants as Status
 use Rattle.register.specs.Register.{statusIn}
-use Rattle.register.specs.Rules.{Unissued, Live}
+use Rattle.register.specs.Rules.{Unissued, Live, Withdrawn}
+use Rattle.register.proofs.Rules.{Says, wrong, withdrawn, unissued, live, says}
 use Rattle.tree.specs.Sheet.{Sheet, defaultMost, premiumMost}
 use Rattle.rows.specs.Rows.{nodeIn, anyOver, soiled}
 use Rattle.sheet.specs.Brought.{Brought}
@@ -29,54 +29,59 @@ use Rattle.walk.proofs.Judging.{Holds, Stands}
 -- ---- 2: the lengths
 
 module _ (x : Brought) (g : List ℕ) where
-  pub rows-lent-fine : (l : Rows) → ((listsBad x || rowsBad x g l) ≡ false) ↔ LentFit x g l
+  pub rows-fine : (l : Rows) → (rowsBad x g l ≡ false)
+      ↔ (((length g ≡ 256) × (length (l .defaults) ≡ (x .sheet .tranches + 1) * (x .sheet .names + 1))) × (length (l .premiums) ≡ (x .sheet .tranches + 1) * (x .sheet .names + 1)))
   unfolding rowsBad
+  rows-fine l = or-fine (or-fine (differs-fine (length g) 256) (differs-fine (length (l .defaults)) _)) (differs-fine (length (l .premiums)) _)
+
+  pub row-fine : (q : List ℕ) → (rowBad x g q ≡ false) ↔ ((length g ≡ 256) × (length q ≡ x .sheet .names + 1))
+  unfolding rowBad
+  row-fine q = or-fine (differs-fine (length g) 256) (differs-fine (length q) _)
+
+  pub rows-lent-fine : (l : Rows) → ((listsBad x || rowsBad x g l) ≡ false) ↔ LentFit x g l
   rows-lent-fine l =
-      Iff·trans
-      (lengths-fine x (or-fine (or-fine
-      (differs-fine (length g) 256)
-      (differs-fine (length (l .defaults)) ((x .sheet .tranches + 1) * (x .sheet .names + 1))))
-      (differs-fine (length (l .premiums)) ((x .sheet .tranches + 1) * (x .sheet .names + 1)))))
+      Iff·trans (lengths-fine x (rows-fine l))
       (λ m. record { lists = m .0; size = m .1 .0 .0; defaults = m .1 .0 .1; premiums = m .1 .1 }, λ p. (p .lists, ((p .size, p .defaults), p .premiums)))
 
   pub row-lent-fine : (q : List ℕ) → ((listsBad x || rowBad x g q) ≡ false) ↔ ForwardFit x g q
-  unfolding rowBad
   row-lent-fine q =
-      Iff·trans
-      (lengths-fine x (or-fine (differs-fine (length g) 256) (differs-fine (length q) (x .sheet .names + 1))))
+      Iff·trans (lengths-fine x (row-fine q))
       (λ m. record { lists = m .0; size = m .1 .0; row = m .1 .1 }, λ p. (p .lists, (p .size, p .row)))
 
 -- ---- 9 and 10: the register, of the right length
 
+pub only-live : (g : List ℕ) (y : ℕ) → Unissued g y ⊎ Live g y → ¬ (Unissued g y) → Live g y
+only-live g y (inl u) n = absurd (n u)
+only-live g y (inr v) n = v
+
+pub live-issued : (g : List ℕ) (y : ℕ) → Live g y → ¬ (Unissued g y)
+live-issued g y v u = let e : _≡_ {A = ℕ} 0xFF 0xA5 = sym (u .byte) ∙ v .byte in omega arith
+
+pub not-either : (g : List ℕ) (y : ℕ) → Withdrawn g y → ¬ (Unissued g y ⊎ Live g y)
+not-either g y h (inl u) = h .not-unissued (u .byte)
+not-either g y h (inr v) = h .not-live (v .byte)
+
 module _ (g : List ℕ) (y : ℕ) (long : length g ≡ 256) where
-  status-unissued : getD g y 0 ≡ 0xFF → statusIn g y ≡ Status.Unissued
-  status-unissued e = rw e
-
-  status-live : getD g y 0 ≡ 0xA5 → statusIn g y ≡ Status.Live
-  status-live e = rw e
-
-  status-gone : ¬ (getD g y 0 ≡ 0xFF) → ¬ (getD g y 0 ≡ 0xA5) → statusIn g y ≡ Status.Withdrawn
-  status-gone e f = simp (ne-eqb (getD g y 0) 0xFF e, ne-eqb (getD g y 0) 0xA5 f)
+  says-gone : Withdrawn g y → statusIn g y ≡ Status.Withdrawn
+  says-gone h = simp (ne-eqb (getD g y 0) 0xFF (h .not-unissued), ne-eqb (getD g y 0) 0xA5 (h .not-live))
 
   pub withdrawn-fine : (isWithdrawn (statusIn g y) ≡ false) ↔ (Unissued g y ⊎ Live g y)
-  withdrawn-fine = go (ℕ-discrete (getD g y 0) 0xFF) (ℕ-discrete (getD g y 0) 0xA5)
+  withdrawn-fine = go (says g y)
     where
-      go : Dec (getD g y 0 ≡ 0xFF) → Dec (getD g y 0 ≡ 0xA5) → (isWithdrawn (statusIn g y) ≡ false) ↔ (Unissued g y ⊎ Live g y)
-      go (yes d) e = (λ p. inl (record { size = long; byte = d }), λ p. ap isWithdrawn (status-unissued d))
-      go (no d) (yes e) = (λ p. inr (record { size = long; byte = e }), λ p. ap isWithdrawn (status-live e))
-      go (no d) (no e) = (λ p. absurd (true≢false (sym (ap isWithdrawn (status-gone d e)) ∙ p)), never)
-        where
-          never : Unissued g y ⊎ Live g y → isWithdrawn (statusIn g y) ≡ false
-          never (inl u) = absurd (d (u .byte))
-          never (inr u) = absurd (e (u .byte))
+      go : Says g y → (isWithdrawn (statusIn g y) ≡ false) ↔ (Unissued g y ⊎ Live g y)
+      go (wrong h) = absurd (h long)
+      go (withdrawn h) = (λ p. absurd (true≢false (sym (ap isWithdrawn (says-gone h)) ∙ p)), λ p. absurd (not-either g y h p))
+      go (unissued h) = (λ p. inl h, λ p. rw (h .byte))
+      go (live h) = (λ p. inr h, λ p. rw (h .byte))
 
   pub unissued-fine : (isUnissued (statusIn g y) ≡ false) ↔ (¬ (Unissued g y))
-  unissued-fine = go (ℕ-discrete (getD g y 0) 0xFF) (ℕ-discrete (getD g y 0) 0xA5)
+  unissued-fine = go (says g y)
     where
-      go : Dec (getD g y 0 ≡ 0xFF) → Dec (getD g y 0 ≡ 0xA5) → (isUnissued (statusIn g y) ≡ false) ↔ (¬ (Unissued g y))
-      go (yes d) e = (λ p. absurd (true≢false (sym (ap isUnissued (status-unissued d)) ∙ p)), λ p. absurd (p (record { size = long; byte = d })))
-      go (no d) (yes e) = (λ p u. d (u .byte), λ p. ap isUnissued (status-live e))
-      go (no d) (no e) = (λ p u. d (u .byte), λ p. ap isUnissued (status-gone d e))
+      go : Says g y → (isUnissued (statusIn g y) ≡ false) ↔ (¬ (Unissued g y))
+      go (wrong h) = absurd (h long)
+      go (withdrawn h) = (λ p u. h .not-unissued (u .byte), λ p. ap isUnissued (says-gone h))
+      go (unissued h) = (λ p. absurd (true≢false (rw (h .byte) at p)), λ p. absurd (p h))
+      go (live h) = (λ p. live-issued g y h, λ p. rw (h .byte))
 
 -- ---- 11 and 12: the walk and its rows
 
@@ -203,13 +208,6 @@ pub record Forwarding (x : Brought) (g q : List ℕ) (i : ℕ) : Type 0 where
   pub lent : ForwardFit x g q
   pub live : Live g (x .number)
   pub steps : i ≤ x .sheet .steps
-
-pub only-live : (g : List ℕ) (y : ℕ) → Unissued g y ⊎ Live g y → ¬ (Unissued g y) → Live g y
-only-live g y (inl u) n = absurd (n u)
-only-live g y (inr v) n = v
-
-pub live-issued : (g : List ℕ) (y : ℕ) → Live g y → ¬ (Unissued g y)
-live-issued g y v u = let e : _≡_ {A = ℕ} 0xFF 0xA5 = sym (u .byte) ∙ v .byte in omega arith
 
 module _ (x : Brought) (g : List ℕ) where
   pub ten-holds : (K : Type 0) (m : Order) → (K → ListsFit x) → Holds (toTen x g K m) ↔ (Limits x × K × Live g (x .number) × Holds m)

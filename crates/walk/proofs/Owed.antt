@@ -17,15 +17,15 @@ use Rattle.rows.specs.Rows.{nodeIn}
 use Rattle.sheet.specs.Brought.{Brought}
 use Rattle.sheet.proofs.Limits.{within}
 use Rattle.walk.specs.Answers.{Said, accepted}
-use Rattle.walk.specs.Table.{valueOrder}
+use Rattle.walk.specs.Table.{OnWalk}
 use Rattle.walk.specs.Does.{says, Values}
 use Rattle.walk.specs.Engine.{Engine}
 use Rattle.walk.specs.Lists.{same, lent, value, went, turn, Run, end, history, answers}
 use Rattle.walk.specs.Promises.{Walked, heldD, heldA, heldWorth, Shown, Found, Owed}
 use Rattle.walk.specs.Promise.{Rules}
-use Rattle.walk.proofs.Orders.{Tells, value-holds, refuses, breaks-ten}
+use Rattle.walk.proofs.Taken.{value-taken, ten-early}
 use Rattle.walk.proofs.Steps.{Holding}
-use Rattle.walk.proofs.Invariant.{Stands, known}
+use Rattle.walk.proofs.Invariant.{Stands, zero-gone, known}
 
 -- A list that walked h steps back on x: how its walk stands, and its rows.
 pub record Place (e : Engine) (u : Run) (x : Brought) (h : ℕ) : Type 0 where
@@ -60,19 +60,24 @@ module _ (e : Engine) (rules : Rules e) (u : Run) (y h : ℕ) (w : Walked e u y 
   held-A = holding .premium j k l m
 
 module _ (e : Engine) (rules : Rules e) (u : Run) (z h : ℕ) (w : Walked e u z h) where
+  -- Who is on the walk brings its sheet.
+  pub same-sheet : (y : ℕ) → OnWalk (u .book .sheet y) (end e u .walk) → u .book .sheet y ≡ u .book .sheet z
+  same-sheet y o =
+      let number : y ≡ z = sym (u .book .bears y) ∙ sym (o .number) ∙ placed e rules u z h w .stood .number ∙ u .book .bears z in
+      ap (u .book .sheet) number
+
   shown : (y j k : ℕ) → accepted (answers e u (value y same j k)) ≡ true → Shown e u (u .book .sheet z) y j k
   unfolding turn went heldD heldA heldWorth
   shown y j k t =
       let r : Values (u .book .sheet y) (end e u .register) (end e u .walk) (end e u .rows) j k
       (e .value (u .book .sheet y) (end e u .register) (end e u .walk) (end e u .rows) j k)
       = rules .value (u .book .sheet y) (end e u .register) (end e u .walk) (end e u .rows) j k in
-      let a : Tells (u .book .sheet y) (end e u .register) (end e u .walk) (end e u .rows) j k = value-holds _ _ _ _ _ j k (r .judged) t in
-      let number : y ≡ z = sym (u .book .bears y) ∙ sym (a .walk .number) ∙ placed e rules u z h w .stood .number ∙ u .book .bears z in
-      let b : u .book .sheet y ≡ u .book .sheet z = ap (u .book .sheet) number in
+      let a = value-taken (u .book .sheet y) (end e u .register) (end e u .walk) (end e u .rows) _ j k r .0 t in
+      let b : u .book .sheet y ≡ u .book .sheet z = same-sheet y (a .0 .walk) in
       record {
         sheet = b;
-        tranche = subst (λ x. j ≤ x .sheet .tranches) b (a .tranche);
-        count = subst (λ x. k ≤ x .sheet .names) b (a .count);
+        tranche = subst (λ x. j ≤ x .sheet .tranches) b (a .1);
+        count = subst (λ x. k ≤ x .sheet .names) b (a .2);
         said = r .does t .said ∙ ap (λ x. worthOf x) b;
       }
     where
@@ -113,5 +118,5 @@ owed e rules u =
           let x = u .book .sheet y in
           let r = rules .value x (end e u .register) (end e u .walk) (lent t (end e u .rows)) j k in
           let zero : getD (end e u .register) (x .number) 0 ≡ 0 = rw (u .book .bears y) (known e rules u .out y g) in
-          refuses 9 (valueOrder x (end e u .register) (end e u .walk) (lent t (end e u .rows)) j k) _ (r .judged) (breaks-ten x (end e u .register) _ _ zero) .0;
+          ten-early x (end e u .register) (zero-gone _ _ zero) _ _ _ refl (r .judged) .refused;
     }

@@ -10,18 +10,19 @@ use lib.ListN.{length, getD, set, length-set, List·getD-eq-default}
 use lib.Seq.{getD-set-same}
 use lib.Dec.{eqb}
 use borrow.Author.Tests.{eqb-true}
+use Rattle.register.specs.Rules.{Unissued, Live}
 use Rattle.register.specs.Cut.{mayBeLeft}
+use Rattle.register.proofs.Masks.{both}
 use Rattle.sheet.specs.Brought.{Brought}
 use Rattle.walk.specs.declared.Walk.{Walk}
 use Rattle.walk.specs.Answers.{Rows, accepted}
-use Rattle.walk.specs.Table.{Order, Judges, issueOrder, withdrawOrder, openOrder, backOrder, valueOrder, ratioOrder, forwardOrder}
 use Rattle.walk.specs.Does.{Entered, Moved, Kept, Writes}
 use Rattle.walk.specs.Engine.{Engine}
 use Rattle.walk.specs.Lists.{lent, Call, issue, withdraw, opening, back, value, State, entered, begun, went, turn, History, noted, nothing}
 use Rattle.walk.specs.Promises.{Event, returned, cutIn, found, leaves, withdrew, afterAll, everWithdrew, Early, Shut, Forever, Clears}
 use Rattle.walk.specs.Promise.{Rules}
-use Rattle.walk.proofs.Orders.{Breaks, refuses, issue-holds, withdraw-holds, breaks-ten, breaks-issue, breaks-withdraw}
-use Rattle.walk.proofs.Invariant.{writes-zero, zero-stays, unissued-some, live-some, or-cases, both}
+use Rattle.walk.proofs.Taken.{issue-taken, withdraw-taken, issue-early, withdraw-early, ten-early}
+use Rattle.walk.proofs.Invariant.{writes-zero, zero-stays, unissued-some, live-some, zero-gone, or-cases}
 
 -- ---- what a write leaves
 
@@ -43,10 +44,10 @@ written g y v o r = go (accepted (o .said)) refl
 
 module _ (e : Engine) (rules : Rules e) where
   issue-over : (g : List ℕ) (y : ℕ) → accepted (e .issue g y .said) ≡ true → getD g y 0 ≢ 0
-  issue-over g y a = unissued-some g y (issue-holds g y (e .issue g y .said) (rules .issue g y .judged) a)
+  issue-over g y a = unissued-some g y (issue-taken g y _ (rules .issue g y) .0 a)
 
   withdraw-over : (g : List ℕ) (y : ℕ) → accepted (e .withdraw g y .said) ≡ true → getD g y 0 ≢ 0
-  withdraw-over g y a = live-some g y (withdraw-holds g y (e .withdraw g y .said) (rules .withdraw g y .judged) a)
+  withdraw-over g y a = live-some g y (withdraw-taken g y _ (rules .withdraw g y) .0 a)
 
   found-size : (g : List ℕ) (c : Call) (b : ℕ) → length (found e g c b) ≡ length g
   unfolding found
@@ -138,39 +139,26 @@ module _ (e : Engine) (rules : Rules e) where
 
   -- ---- refused for ever
 
-  shut-write : (l : Order) (g : List ℕ) (y v : ℕ) (o : Entered) → Judges l (o .said) → Breaks 9 l → Writes g y v o → Early (o .said) × (o .register ≡ g)
-  shut-write l g y v o j b r =
-      let a = refuses 9 l (o .said) j b in
-      (record { refused = a .0; early = a .1 }, r .leaves (a .0))
+  shut-write : (g : List ℕ) (y v : ℕ) (o : Entered) → Early (o .said) → Writes g y v o → Early (o .said) × (o .register ≡ g)
+  shut-write g y v o a r = (a, r .leaves (a .refused))
 
-  shut-move : (l : Order) (w : Walk) (m : Rows) (o : Moved) → Judges l (o .said) → Breaks 9 l → Kept w m o → Early (o .said) × (o .walk ≡ w) × (o .rows ≡ m)
-  shut-move l w m o j b k =
-      let a = refuses 9 l (o .said) j b in
-      let r = k (a .0) in
-      (record { refused = a .0; early = a .1 }, r .0, r .1)
+  shut-move : (w : Walk) (m : Rows) (o : Moved) → Early (o .said) → Kept w m o → Early (o .said) × (o .walk ≡ w) × (o .rows ≡ m)
+  shut-move w m o a k = let r = k (a .refused) in (a, r .0, r .1)
 
   shut : (g : List ℕ) (y : ℕ) → getD g y 0 ≡ 0 → Shut e g y
   shut g y z =
       record {
-        issue = shut-write (issueOrder g y) g y 0xA5 (e .issue g y) (rules .issue g y .judged) (breaks-issue g y z) (rules .issue g y .writes);
-        withdraw = shut-write (withdrawOrder g y) g y 0x00 (e .withdraw g y) (rules .withdraw g y .judged) (breaks-withdraw g y z) (rules .withdraw g y .writes);
-        opening = λ x w l b.
-            let r = rules .opening x g w l in
-            shut-move (openOrder x g l) w l (e .opening x g w l) (r .judged) (breaks-ten x g _ _ (rw b z)) (r .leaves);
-        back = λ x w l c b.
-            let r = rules .back x g w l c in
-            shut-move (backOrder x g w l c) w l (e .back x g w l c) (r .judged) (breaks-ten x g _ _ (rw b z)) (r .leaves);
-        value = λ x w l j k b.
-            let r = rules .value x g w l j k in
-            shut-move (valueOrder x g w l j k) w l (e .value x g w l j k) (r .judged) (breaks-ten x g _ _ (rw b z)) (r .leaves);
-        ratio = λ x w l j k b.
-            let r = rules .ratio x g w l j k in
-            shut-move (ratioOrder x g w l j k) w l (e .ratio x g w l j k) (r .judged) (breaks-ten x g _ _ (rw b z)) (r .leaves);
-        forward = λ x q i b.
-            let r = rules .forward x g q i in
-            let a = refuses 9 (forwardOrder x g q i) (e .forward x g q i .said) (r .judged) (breaks-ten x g _ _ (rw b z)) in
-            (record { refused = a .0; early = a .1 }, r .leaves (a .0));
+        issue = let r = rules .issue g y in shut-write g y 0xA5 (e .issue g y) (issue-early g y (zero-gone g y z) _ (r .judged)) (r .writes);
+        withdraw = let r = rules .withdraw g y in shut-write g y 0x00 (e .withdraw g y) (withdraw-early g y (zero-gone g y z) _ (r .judged)) (r .writes);
+        opening = λ x w l b. let r = rules .opening x g w l in shut-move w l (e .opening x g w l) (ten-early x g (gone x b) _ _ _ refl (r .judged)) (r .leaves);
+        back = λ x w l c b. let r = rules .back x g w l c in shut-move w l (e .back x g w l c) (ten-early x g (gone x b) _ _ _ refl (r .judged)) (r .leaves);
+        value = λ x w l j k b. let r = rules .value x g w l j k in shut-move w l (e .value x g w l j k) (ten-early x g (gone x b) _ _ _ refl (r .judged)) (r .leaves);
+        ratio = λ x w l j k b. let r = rules .ratio x g w l j k in shut-move w l (e .ratio x g w l j k) (ten-early x g (gone x b) _ _ _ refl (r .judged)) (r .leaves);
+        forward = λ x q i b. let r = rules .forward x g q i in let a = ten-early x g (gone x b) _ _ _ refl (r .judged) in (a, r .leaves (a .refused));
       }
+    where
+      gone : (x : Brought) → x .number ≡ y → ¬ (Unissued g (x .number) ⊎ Live g (x .number))
+      gone x b = zero-gone g (x .number) (rw b z)
 
   pub power : (start : State) (l : List Event) → Forever e start l
   power start l = record { shut = λ y p. shut (afterAll e start l .register) y (all-gone l start y p); whole = all-size l start }
@@ -197,15 +185,15 @@ pub clears : (e : Engine) → Rules e → (g : List ℕ) (y : ℕ) → Clears e 
 clears e rules g y =
     record {
       issue = λ a.
-          let o : getD g y 0 ≡ 0xFF = issue-holds g y (e .issue g y .said) (rules .issue g y .judged) a .byte in
+          let o : getD g y 0 ≡ 0xFF = issue-taken g y _ (rules .issue g y) .0 a .byte in
           let n : getD (e .issue g y .register) y 0 ≡ 0xA5 = new-byte _ g y 0xA5 0xFE (rules .issue g y .writes .does a .1) o in
           rw (n, o);
       withdraw = λ a.
-          let o : getD g y 0 ≡ 0xA5 = withdraw-holds g y (e .withdraw g y .said) (rules .withdraw g y .judged) a .byte in
+          let o : getD g y 0 ≡ 0xA5 = withdraw-taken g y _ (rules .withdraw g y) .0 a .byte in
           let n : getD (e .withdraw g y .register) y 0 ≡ 0x00 = new-byte _ g y 0x00 0xA4 (rules .withdraw g y .writes .does a .1) o in
           rw (n, o);
       withdraw-cut = λ a b l m.
-          let o : getD g y 0 ≡ 0xA5 = withdraw-holds g y (e .withdraw g y .said) (rules .withdraw g y .judged) a .byte in
+          let o : getD g y 0 ≡ 0xA5 = withdraw-taken g y _ (rules .withdraw g y) .0 a .byte in
           let n : getD (e .withdraw g y .register) y 0 ≡ 0x00 = new-byte _ g y 0x00 0xA4 (rules .withdraw g y .writes .does a .1) o in
           never-all _ _ b o n m;
     }

@@ -3,7 +3,7 @@ use Prim.Native.Nat.{ℕ, suc, _+_, _-_, _*_, _^_, _≤_}
 use mathlib.Core.Path.{_≡_, refl, sym, _∙_, ap, subst}
 use mathlib.Core.Bool.{true, false, true≢false}
 use mathlib.Core.List.{List, []}
-use mathlib.Core.Logic.{inl, inr, ⊎-elim}
+use mathlib.Core.Logic.{inl, inr}
 use native.Mathlib.Numerals.{add-one}
 use native.Mathlib.Omega.{arith}
 use lib.ListN.{length, getD, set}
@@ -37,7 +37,7 @@ use Rattle.walk.specs.Ours.{writeCall, moved, filled, ours}
 use Rattle.walk.specs.Promise.{Rules}
 use Rattle.walk.proofs.Judging.{refusal, refusal-some, Holds, Stands, stands-fine, stands-judges}
 use Rattle.walk.proofs.Walking.{rolls-walk, zeros-default-size, zeros-premium-size, zeros-default, zeros-premium}
-use Rattle.walk.proofs.Ordering.{live-issued, open-stands, back-stands, value-stands, ratio-stands, forward-stands, back-holds, forward-holds}
+use Rattle.walk.proofs.Ordering.{live-issued, not-either, open-stands, back-stands, value-stands, ratio-stands, forward-stands, back-holds, forward-holds}
 
 -- ---- issue and withdraw
 
@@ -52,38 +52,35 @@ module _ (g : List ℕ) (y : ℕ) where
   writes-one : (byte : ℕ) → Writes g y byte (record { said = saying []; register = set g y byte })
   writes-one byte = record { does = λ a. (refl, refl); leaves = λ a. absurd (true≢false a) }
 
+  given : (c : Write) (P : Entered → Type 0) {a : Register.Answer} → answerOf c g y ≡ a → P (entry c g y a) → P (writeCall c g y)
+  given c P e r = subst (λ (a : Register.Answer). P (entry c g y a)) (sym e) r
+
   pub issues : Issues g y (writeCall issue g y)
   unfolding Judges
   issues = go (says g y)
     where
-      given : {a : Register.Answer} → answerOf issue g y ≡ a → Issues g y (entry issue g y a) → Issues g y (writeCall issue g y)
-      given e r = subst (λ (a : Register.Answer). Issues g y (entry issue g y a)) (sym e) r
-
       go : Says g y → Issues g y (writeCall issue g y)
-      go (wrong h) = given (of-length issue g y h) (record { judged = inl (h, refl); writes = writes-not 0xA5 2 refl })
+      go (wrong h) = given issue (Issues g y) (of-length issue g y h) (record { judged = inl (h, refl); writes = writes-not 0xA5 2 refl })
       go (withdrawn h) =
-          given (of-withdrawn issue g y h)
-          (record { judged = inr (h .size, inl (⊎-elim (λ u. h .not-unissued (u .byte)) (λ v. h .not-live (v .byte)), refl)); writes = writes-not 0xA5 9 refl })
-      go (live h) = given (of-live issue g y h) (record { judged = inr (h .size, inr (inr h, inl (λ n. n h, refl))); writes = writes-not 0xA5 17 refl })
+          given issue (Issues g y) (of-withdrawn issue g y h)
+          (record { judged = inr (h .size, inl (not-either g y h, refl)); writes = writes-not 0xA5 9 refl })
+      go (live h) = given issue (Issues g y) (of-live issue g y h) (record { judged = inr (h .size, inr (inr h, inl (λ n. n h, refl))); writes = writes-not 0xA5 17 refl })
       go (unissued h) =
-          given (of-unissued issue g y h)
+          given issue (Issues g y) (of-unissued issue g y h)
           (record { judged = inr (h .size, inr (inl h, inr (λ v. live-issued g y v h, refl))); writes = writes-one 0xA5 })
 
   pub withdraws : Withdraws g y (writeCall withdraw g y)
   unfolding Judges
   withdraws = go (says g y)
     where
-      given : {a : Register.Answer} → answerOf withdraw g y ≡ a → Withdraws g y (entry withdraw g y a) → Withdraws g y (writeCall withdraw g y)
-      given e r = subst (λ (a : Register.Answer). Withdraws g y (entry withdraw g y a)) (sym e) r
-
       go : Says g y → Withdraws g y (writeCall withdraw g y)
-      go (wrong h) = given (of-length withdraw g y h) (record { judged = inl (h, refl); writes = writes-not 0x00 2 refl })
+      go (wrong h) = given withdraw (Withdraws g y) (of-length withdraw g y h) (record { judged = inl (h, refl); writes = writes-not 0x00 2 refl })
       go (withdrawn h) =
-          given (of-withdrawn withdraw g y h)
-          (record { judged = inr (h .size, inl (⊎-elim (λ u. h .not-unissued (u .byte)) (λ v. h .not-live (v .byte)), refl)); writes = writes-not 0x00 9 refl })
-      go (unissued h) = given (of-unissued withdraw g y h) (record { judged = inr (h .size, inr (inl h, inl (λ n. n h, refl))); writes = writes-not 0x00 10 refl })
+          given withdraw (Withdraws g y) (of-withdrawn withdraw g y h)
+          (record { judged = inr (h .size, inl (not-either g y h, refl)); writes = writes-not 0x00 9 refl })
+      go (unissued h) = given withdraw (Withdraws g y) (of-unissued withdraw g y h) (record { judged = inr (h .size, inr (inl h, inl (λ n. n h, refl))); writes = writes-not 0x00 10 refl })
       go (live h) =
-          given (of-live withdraw g y h)
+          given withdraw (Withdraws g y) (of-live withdraw g y h)
           (record { judged = inr (h .size, inr (inr h, inr (live-issued g y h, refl))); writes = writes-one 0x00 })
 
 -- ---- an outcome by the first test met

@@ -11,13 +11,13 @@ use Rattle.sheet.specs.Brought.{Brought}
 use Rattle.sheet.specs.Limits.{Limits}
 use Rattle.sheet.proofs.Limits.{within}
 use Rattle.walk.specs.Answers.{accepted}
-use Rattle.walk.specs.Table.{Clean}
 use Rattle.walk.specs.Does.{Entered, Moved, says, size}
 use Rattle.walk.specs.Engine.{Engine}
 use Rattle.walk.specs.Lists.{Lent, same, lent, kept, Call, issue, withdraw, opening, back, value, State, entered, begun, went, turn, History, noted, after, told, Run, end, history, answers}
 use Rattle.walk.specs.Promises.{Walked, heldD, heldA, heldWorth, Roomy, then, Rooted, Ruled, Serves}
 use Rattle.walk.specs.Promise.{Rules}
-use Rattle.walk.proofs.Orders.{Taken, Goes, Tells, open-holds, open-accepts, back-accepts, value-accepts}
+use Rattle.walk.proofs.Ordering.{Opening, OnWay}
+use Rattle.walk.proofs.Taken.{open-taken, back-taken, value-taken}
 use Rattle.walk.proofs.Steps.{clean}
 use Rattle.walk.proofs.Invariant.{kept-lent}
 use Rattle.walk.proofs.Owed.{placed}
@@ -25,7 +25,7 @@ use Rattle.walk.proofs.Owed.{placed}
 -- ---- one call more
 
 module _ (e : Engine) (book : ℕ → Brought) where
-  after-then : (s : State) (l : List Call) (c : Call) → after e book s (l ++ (c ∷ [])) ≡ turn e book (after e book s l) c .state
+  pub after-then : (s : State) (l : List Call) (c : Call) → after e book s (l ++ (c ∷ [])) ≡ turn e book (after e book s l) c .state
   unfolding after
   after-then s [] c = refl
   after-then s (d ∷ l) c = after-then (turn e book s d .state) l c
@@ -92,13 +92,13 @@ module _ (e : Engine) (rules : Rules e) where
   taken u y l m r a =
       let x = u .book .sheet y in
       let o = rules .opening x (end e u .register) (end e u .walk) (lent l (end e u .rows)) in
-      let t : Taken x (end e u .register) (lent l (end e u .rows)) =
+      let t : Opening x (end e u .register) (lent l (end e u .rows)) =
       record {
         limits = m;
-        fit = record { lists = m .lists; size = a .size; defaults = r .defaults; premiums = r .premiums };
+        lent = record { lists = m .lists; size = a .size; defaults = r .defaults; premiums = r .premiums };
         live = rw (u .book .bears y) a;
       } in
-      o .does (open-accepts x (end e u .register) (end e u .walk) (lent l (end e u .rows)) _ (o .judged) t) .said
+      o .does (open-taken x (end e u .register) (end e u .walk) (lent l (end e u .rows)) _ o .1 t) .said
 
   only : (u : Run) (y : ℕ) (l : Lent) → accepted (answers e u (opening y l)) ≡ true →
       Limits (u .book .sheet y) × Roomy (u .book .sheet y .sheet) (lent l (end e u .rows)) × Live (end e u .register) y
@@ -106,8 +106,8 @@ module _ (e : Engine) (rules : Rules e) where
   only u y l a =
       let x = u .book .sheet y in
       let o = rules .opening x (end e u .register) (end e u .walk) (lent l (end e u .rows)) in
-      let t : Taken x (end e u .register) (lent l (end e u .rows)) = open-holds x (end e u .register) (end e u .walk) (lent l (end e u .rows)) _ (o .judged) a in
-      (t .limits, record { defaults = t .fit .defaults; premiums = t .fit .premiums }, rw (u .book .bears y) at (t .live))
+      let t = open-taken x (end e u .register) (end e u .walk) (lent l (end e u .rows)) _ o .0 a in
+      (t .limits, record { defaults = t .lent .defaults; premiums = t .lent .premiums }, rw (u .book .bears y) at (t .live))
 
   -- ---- what is walked back
 
@@ -115,50 +115,32 @@ module _ (e : Engine) (rules : Rules e) where
     abbrev x : Brought
     x = u .book .sheet y
 
-    ten : Taken x (end e u .register) (end e u .rows)
+    on-way : OnWay x (end e u .register) (end e u .walk) (end e u .rows)
     unfolding size
-    ten =
+    on-way =
         let p = placed e rules u y h w in
         record {
           limits = p .stood .limits;
-          fit = record { lists = p .stood .limits .lists; size = a .size; defaults = p .rows .default-size; premiums = p .rows .premium-size };
+          lent = record { lists = p .stood .limits .lists; size = a .size; defaults = p .rows .default-size; premiums = p .rows .premium-size };
           live = rw (u .book .bears y) a;
+          walk = record { opened = p .stood .opened; number = p .stood .number; position = omega (arith, p .place) };
+          clean = rw (p .position) (clean (x .sheet) (within x (p .stood .limits)) h (x .sheet .steps - h) (end e u .rows) (omega (arith, p .place)) (p .rows));
         }
-
-    never-soiled : Clean (x .sheet) (end e u .walk .position) (end e u .rows)
-    never-soiled =
-        let p = placed e rules u y h w in
-        rw (p .position) (clean (x .sheet) (within x (p .stood .limits)) h (x .sheet .steps - h) (end e u .rows) (omega (arith, p .place)) (p .rows))
 
     goes : (c : ℕ) → h + c ≤ x .sheet .steps → answers e u (back y same c) ≡ says (pos (x .sheet .steps - (h + c)) ∷ [])
     unfolding turn went
     goes c l =
         let p = placed e rules u y h w in
         let o = rules .back x (end e u .register) (end e u .walk) (end e u .rows) c in
-        let t : Goes x (end e u .register) (end e u .walk) (end e u .rows) c =
-        record {
-          taken = ten;
-          walk = record { opened = p .stood .opened; number = p .stood .number; position = omega (arith, p .place) };
-          clean = never-soiled;
-          steps = omega (arith, p .place);
-        } in
+        let far : c ≤ end e u .walk .position = omega (arith, p .place) in
         let i : end e u .walk .position - c ≡ x .sheet .steps - (h + c) = omega (arith, p .place) in
-        o .does (back-accepts x (end e u .register) (end e u .walk) (end e u .rows) _ c (o .judged) t) .said ∙ ap (λ n. says (pos n ∷ [])) i
+        o .does (back-taken x (end e u .register) (end e u .walk) (end e u .rows) _ c o .1 (on-way, far)) .said ∙ ap (λ n. says (pos n ∷ [])) i
 
     tells : (j k : ℕ) → j ≤ x .sheet .tranches → k ≤ x .sheet .names → answers e u (value y same j k) ≡ heldWorth e u x j k
     unfolding turn went heldWorth heldD heldA
     tells j k l m =
-        let p = placed e rules u y h w in
         let o = rules .value x (end e u .register) (end e u .walk) (end e u .rows) j k in
-        let t : Tells x (end e u .register) (end e u .walk) (end e u .rows) j k =
-        record {
-          taken = ten;
-          walk = record { opened = p .stood .opened; number = p .stood .number; position = omega (arith, p .place) };
-          clean = never-soiled;
-          tranche = l;
-          count = m;
-        } in
-        o .does (value-accepts x (end e u .register) (end e u .walk) (end e u .rows) _ j k (o .judged) t) .said
+        o .does (value-taken x (end e u .register) (end e u .walk) (end e u .rows) _ j k o .1 (on-way, l, m)) .said
 
     -- So the walk stands c steps further back.
     walks-on : (c : ℕ) → h + c ≤ x .sheet .steps → Walked e (then u (back y same c)) y (h + c)

@@ -1,13 +1,9 @@
 -- Rows that hold D and A, and that a step and c steps back take such rows to such rows. Assumes nothing.
-use Prim.Native.Nat.{ℕ, zero, suc, _+_, _-_, _*_, _≤_, _<_}
+use Prim.Native.Nat.{ℕ, zero, suc, _+_, _-_, _*_, _≤_}
 use mathlib.Core.Path.{_≡_, refl, sym, _∙_, ap, subst₂, subst}
-use mathlib.Core.Bool.{cond}
 use native.Mathlib.Omega.{arith}
-use native.Mathlib.Decide.{decLt}
-use native.Mathlib.Nat.{add-zero, zero-mul}
+use native.Mathlib.Nat.{add-zero}
 use lib.ListN.{length, getD}
-use lib.Dec.{ltb}
-use borrow.Author.Tests.{lt-ltb, le-ltb}
 use Rattle.cash.specs.Units.{half}
 use Rattle.cash.specs.Losses.{defaultPayment, premiumPayment}
 use Rattle.tree.specs.Backward.{rollNode, backFrom, back, legValue}
@@ -15,10 +11,11 @@ use Rattle.tree.specs.Legs.{defaultCash, premiumCash}
 use Rattle.tree.specs.Sheet.{Sheet, Within, hazardOf, discountOf, accrualOf, lossOf, outstandingOf, treeOf, defaultOf, premiumOf, D, A}
 use Rattle.tree.proofs.Statements.{ceilings}
 use Rattle.rows.specs.Rows.{nodeIn}
-use Rattle.rows.proofs.Rolled.{hazard-is, hazard-last, node-same}
+use Rattle.rows.proofs.Rolled.{node-same}
 use Rattle.walk.specs.Answers.{Rows}
 use Rattle.walk.specs.Table.{Clean}
-use Rattle.walk.specs.Does.{size, ruled, Stepped, Walks}
+use Rattle.walk.specs.Does.{size, Stepped, Walks}
+use Rattle.walk.proofs.Walking.{ruled-is}
 
 -- Both rows at position i, h steps before the end.
 pub record Holding (x : Sheet) (h i : ℕ) (l : Rows) : Type 0 where
@@ -28,17 +25,6 @@ pub record Holding (x : Sheet) (h i : ℕ) (l : Rows) : Type 0 where
   pub premium : (j k : ℕ) → j ≤ x .tranches → k ≤ x .names → nodeIn x (l .premiums) j k ≡ A x j h i k
 
 -- ---- a step
-
--- The rule's figure is the tree's: a sheet has a hazard for each name, and none for the last count.
-ruled-is : (x : Sheet) → length (x .hazards) ≡ x .names → (i k d s : ℕ) → ruled x i k d s ≡ rollNode (hazardOf x (suc i) k) (discountOf x (suc i)) d s
-unfolding ruled rollNode discountOf
-ruled-is x long i k d s = rw (← (hazard-is x long (suc i) k), chance (decLt k (x .names)))
-  where
-    chance : Dec (k < x .names) → cond (ltb k (x .names)) (getD (x .hazards) k 0 * d) 0 ≡ getD (x .hazards) k 0 * d
-    chance (yes m) = rw (lt-ltb k (x .names) m)
-    chance (no m) =
-        let l : x .names ≤ k = omega arith in
-        rw (le-ltb k (x .names) l, hazard-is x long (suc i) k, hazard-last x (suc i) k l) (sym (zero-mul d))
 
 D-start : (x : Sheet) (j i k : ℕ) → D x j 0 i k ≡ 0
 unfolding D legValue back backFrom
@@ -64,11 +50,11 @@ step x long h i l m s q =
       default-size = s .default-size;
       premium-size = s .premium-size;
       default = λ j k p r.
-          s .default j k p r ∙ ruled-is x long i k _ _
+          s .default j k p r ∙ sym (ruled-is x long i k _ _)
           ∙ node-same x (suc i) k (discountOf x (suc i)) _ _ _ _ (λ b. ap (λ y. y + (lossOf x j (suc k) - lossOf x j k)) (q .default j (suc k) p b)) (q .default j k p r)
           ∙ D-step x j h i k;
       premium = λ j k p r.
-          s .premium j k p r ∙ ruled-is x long i k _ _
+          s .premium j k p r ∙ sym (ruled-is x long i k _ _)
           ∙ node-same x (suc i) k (discountOf x (suc i)) _ _ _ _
           (λ b. ap (λ y. y + half (getD (x .accruals) i 0 * outstandingOf x j (suc k))) (q .premium j (suc k) p b))
           (ap (λ y. y + half (getD (x .accruals) i 0 * outstandingOf x j k)) (q .premium j k p r))

@@ -7,7 +7,6 @@ use Rattle.sheet.specs.Brought.{Brought}
 use Rattle.walk.specs.declared.Walk.{Walk}
 use Rattle.walk.specs.Answers.{Rows, accepted}
 use Rattle.walk.specs.Calls.{Outcome, openCall, backCall, valueCall}
-use Rattle.walk.specs.Does.{Moved}
 use Rattle.walk.specs.Ours.{ours, moved}
 use Rattle.walk.specs.Lists.{same, Call, opening, back, value, State, Turn, turn, begun, went, Run, end}
 use Rattle.walk.specs.Promises.{then}

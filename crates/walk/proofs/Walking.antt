@@ -14,7 +14,7 @@ use Rattle.tree.specs.Paths.{survive, default}
 use Rattle.tree.specs.Backward.{rollNode, Leg}
 use Rattle.tree.specs.Legs.{defaultCash, premiumCash}
 use Rattle.tree.specs.Sheet.{Sheet, hazardOf, discountOf, accrualOf, lossOf, outstandingOf, defaultOf, premiumOf}
-use Rattle.rows.specs.Rows.{nodeIn, rowOf, rolled, rolledBack}
+use Rattle.rows.specs.Rows.{nodeIn, rolled, rolledBack}
 use Rattle.rows.proofs.Tables.{length-row, node-row, is-row}
 use Rattle.rows.proofs.Rolled.{hazard-is, length-rolled, rolled-entry, rolled-join}
 use Rattle.sheet.specs.Brought.{Brought}
@@ -134,19 +134,13 @@ walks-once x (suc c) i l m n (a, s, p) (b, t, q) =
 -- ---- rows of zeros
 
 module _ (x : Brought) where
-  pub zeros-defaults : zeros x .defaults ≡ rowOf (x .sheet) (λ j k. 0)
-  unfolding zeros
-  zeros-defaults = refl
-
-  pub zeros-premiums : zeros x .premiums ≡ rowOf (x .sheet) (λ j k. 0)
-  unfolding zeros
-  zeros-premiums = refl
-
   pub zeros-default-size : length (zeros x .defaults) ≡ size (x .sheet)
-  zeros-default-size = ap length zeros-defaults ∙ length-row (x .sheet) (λ j k. 0) ∙ size-is (x .sheet)
+  unfolding zeros
+  zeros-default-size = length-row (x .sheet) (λ j k. 0) ∙ size-is (x .sheet)
 
   pub zeros-premium-size : length (zeros x .premiums) ≡ size (x .sheet)
-  zeros-premium-size = ap length zeros-premiums ∙ length-row (x .sheet) (λ j k. 0) ∙ size-is (x .sheet)
+  unfolding zeros
+  zeros-premium-size = length-row (x .sheet) (λ j k. 0) ∙ size-is (x .sheet)
 
   pub zeros-default : (j k : ℕ) → j ≤ x .sheet .tranches → k ≤ x .sheet .names → nodeIn (x .sheet) (zeros x .defaults) j k ≡ 0
   unfolding zeros

@@ -8,4 +8,5 @@ pub mod Ours
 pub mod Lists
 pub mod Promises
 pub mod Promise
+pub mod Risk
 pub mod Tied

@@ -175,7 +175,7 @@ pub record Forever (e : Engine) (start : State) (l : List Event) : Type 0 where
   pub shut : (y : ℕ) → everWithdrew e start l y ≡ true → Shut e (afterAll e start l .register) y
   pub whole : length (afterAll e start l .register) ≡ length (start .register)
 
--- A write only clears bits: the power may fail as it begins and as it ends, and a cut withdrawal is never found unissued.
+-- A write only clears bits: the byte that an accepted issue or withdraw leaves is one that a cut in it may leave, and a cut withdrawal is never found unissued.
 pub record Clears (e : Engine) (g : List ℕ) (y : ℕ) : Type 0 where
   pub issue : accepted (e .issue g y .said) ≡ true → mayBeLeft (getD g y 0) (getD (e .issue g y .register) y 0) (getD (e .issue g y .register) y 0) ≡ true
   pub withdraw : accepted (e .withdraw g y .said) ≡ true → mayBeLeft (getD g y 0) (getD (e .withdraw g y .register) y 0) (getD (e .withdraw g y .register) y 0) ≡ true

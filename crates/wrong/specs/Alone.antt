@@ -1,14 +1,10 @@
--- That the promise leaves an engine no choice. Proved in proofs/Alone.antt.
+-- That demand 3 leaves an engine no choice in any list. Proved in proofs/Alone.antt. (That the rules leave it none at all is `alone` of walk's proofs/One.antt.)
 use mathlib.Core.Path.{_≡_}
 use mathlib.Core.List.{List}
 use Rattle.walk.specs.Answers.{Rows}
 use Rattle.walk.specs.Engine.{Engine}
 use Rattle.walk.specs.Lists.{Call, Book, end, answers}
-use Rattle.walk.specs.Promise.{Rules, Demand3, blankRun}
-
--- Two engines that keep the rules are one.
-abbrev pub RulesAlone : Type 0
-RulesAlone = (e f : Engine) → Rules e → Rules f → e ≡ f
+use Rattle.walk.specs.Promise.{Demand3, blankRun}
 
 -- Two engines leave one state after a list of calls, and answer any further call alike.
 pub record Alike (e f : Engine) (k : Book) (rows : Rows) (l : List Call) : Type 0 where

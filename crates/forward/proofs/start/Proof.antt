@@ -1,16 +1,18 @@
 -- The row starts afresh: B at the count 0, and each later count that the loop has passed is 0. Assumes nothing.
 use borrow.Author.Needs.{needs}
 use Prim.Native.Nat.{_*_, _-_, _≤_}
-use mathlib.Core.Path.{refl}
+use mathlib.Core.Path.{_≡_, refl}
+use native.Mathlib.Omega.{arith}
+use lib.ListN.{length}
 use Rattle.cash.specs.Units.{B}
 use Rattle.tree.specs.Forward.{same}
-use Rattle.forward.proofs.Filled.{Filled, filled-none, filled-more, filled-all}
+use Rattle.rows.proofs.Sweep.{Swept, swept-none, swept-more, swept-tab}
 use Rattle.forward.proofs.Moves.{one-unit, none-later}
 use Rattle.forward.proofs.start.Statement.{statement}
 use Rattle.forward.proofs.start.Tie as tie
 
 abbrev Inv-loop : tie.InvT-loop
-Inv-loop row₀ size k₀ row k = (1 ≤ k) × (k ≤ size) × Filled (λ k. B * same 0 k) size row k
+Inv-loop row₀ size k₀ row k = (1 ≤ k) × (k ≤ size) × (length row₀ ≡ size) × Swept (λ k. B * same 0 k) row₀ row k
 
 abbrev μ-loop : tie.MeasureT-loop
 μ-loop row₀ size k₀ row k = size - k
@@ -20,7 +22,9 @@ slice-write-row c = search needs
 
 loop-holds : tie.Need-loop-holds Inv-loop μ-loop
 unfolding B
-loop-holds c = (search needs, search needs, filled-more _ _ _ _ _ (filled-none _ _ (c .args .row .now) refl) (search needs) one-unit)
+loop-holds c =
+    let s = swept-more (λ k. B * same 0 k) (c .args .row .now) _ _ _ (swept-none _ _) (search needs) one-unit in
+    (search needs, search needs, s .same, record { same = refl; passed = s .passed; ahead = λ i h. refl })
 
 mul-row : tie.Need-mul-row Inv-loop μ-loop
 mul-row c = search needs
@@ -37,13 +41,13 @@ loop-less c = search needs
 loop-again : tie.Need-loop-again Inv-loop μ-loop
 loop-again c =
     let v = c .before .loop .inv in
-    (search needs, search needs, filled-more _ _ _ _ _ (v .2) (c .loop-test .taken) (none-later _ (v .0)))
+    (search needs, search needs, v .2, swept-more _ _ _ _ _ (v .3) (omega (arith, v .2, v .3 .same)) (none-later _ (v .0)))
 
 same-length : tie.Need-same-length Inv-loop μ-loop
-same-length c = c .before .loop .inv .2 .long
+same-length c = let v = c .before .loop .inv in omega (arith, v .2, v .3 .same)
 
 returns : tie.Need-returns Inv-loop μ-loop
-returns c = filled-all _ _ _ _ (c .before .loop .inv .2) (search needs)
+returns c = let v = c .before .loop .inv in swept-tab _ (v .3) (v .2) (omega arith)
 
 pub start-spec : {M : Type 1} → statement M
 start-spec =

@@ -1,10 +1,9 @@
 -- By the checks 1 to 10, then by the steps; the row is then the distribution. Assumes nothing.
 use borrow.Author.Needs.{needs}
-use mathlib.Core.Path.{_≡_, refl, sym, _∙_, ap}
+use mathlib.Core.Path.{_≡_, refl, sym, _∙_}
 use mathlib.Core.Bool.{false}
 use mathlib.Core.List.{List, []}
 use Prim.Native.Nat.{ℕ}
-use Rattle.rows.specs.Rows.{spreadRow}
 use Rattle.forward.proofs.Alike.{spread-alike}
 use Rattle.sheet.specs.Brought.{Brought, brought}
 use Rattle.sheet.specs.declared.Found.the-variants.{Fine}
@@ -13,10 +12,9 @@ use Rattle.sheet.proofs.Limits.{within}
 use Rattle.walk.specs.Calls.{Filled, tenTests, rowBad, forwardCall}
 use Rattle.walk.specs.Does.{Forwards}
 use Rattle.walk.specs.Ours.{filled}
-use Rattle.walk.proofs.Lengths.{row-told, row-fits}
-use Rattle.walk.proofs.Passed.{Inside, inside-by}
+use Rattle.walk.proofs.Lengths.{row-told}
 use Rattle.walk.proofs.Ruled.{forwards}
-use Rattle.walk.proofs.Ends.{forward-not, forward-out, forward-done}
+use Rattle.walk.proofs.Ends.{forward-not, forward-out, forwarding, forward-done}
 use Rattle.walk.proofs.forward.Statement.{statement}
 use Rattle.walk.proofs.forward.Tie as tie
 
@@ -59,9 +57,6 @@ enum-told c = search needs
 ten : (c : tie.After-enum-told) → let p = c .before .before in first (tenTests (sheet (start p)) (start p .args .register .now) (p .before .row-differs .result) []) ≡ Fine
 ten c = sym (c .before .before .to-ten .ensures) ∙ c .enum-told .given .1
 
-inside : (c : tie.After-enum-told) → let s = start (c .before .before) in Inside (sheet s) (rowBad (sheet s) (s .args .register .now) (s .args .row .now))
-inside c = inside-by _ _ _ _ [] (told (c .before .before)) (ten c)
-
 same-length-2 : tie.Need-same-length-2
 same-length-2 c = search needs
 
@@ -73,10 +68,11 @@ returns-2 c =
 
 spread-requires : tie.Need-spread-requires
 spread-requires c κs =
-    let t = c .before .before .before in
+    let i = c .before in
+    let t = i .before .before in
     let s = start (t .before .before) in
-    let o = inside t in
-    (sym (o .limits .lists .hazards), (row-fits (sheet s) (s .args .register .now) (s .args .row .now) (o .same), within (sheet s) (o .limits) .hazard-most))
+    let o = forwarding (sheet s) (s .args .register .now) (s .args .row .now) _ (told (t .before .before)) (s .args .steps) (ten t) (i .if1 .left) in
+    (sym (o .limits .lists .hazards), (o .lent .row, within (sheet s) (o .limits) .hazard-most))
 
 same-length-3 : tie.Need-same-length-3
 same-length-3 c = search needs

@@ -1,8 +1,7 @@
 -- By the checks 1 to 12, then by the steps that are left. Assumes nothing.
 use borrow.Author.Needs.{needs}
-use mathlib.Core.Path.{_≡_, sym, _∙_, ap}
+use mathlib.Core.Path.{_≡_, sym, _∙_}
 use mathlib.Core.List.{[]}
-use native.Mathlib.Omega.{arith}
 use Rattle.sheet.specs.Brought.{Brought, brought}
 use Rattle.sheet.specs.declared.Found.the-variants.{Fine}
 use Rattle.sheet.specs.Tests.{first}

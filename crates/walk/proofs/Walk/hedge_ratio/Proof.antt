@@ -1,28 +1,29 @@
 -- By the checks 1 to 12, then by the node, then by the two jumps. Assumes nothing.
 use borrow.Author.Needs.{needs, sfits-of}
-use mathlib.Core.Path.{_≡_, sym, _∙_, ap, subst}
+use mathlib.Core.Path.{_≡_, sym, _∙_, subst}
 use mathlib.Core.List.{[]}
-use native.Mathlib.Omega.{arith}
+use lib.Dec.{ltb}
 use Rattle.sheet.specs.Brought.{Brought, brought}
 use Rattle.sheet.specs.declared.Found.the-variants.{Fine}
 use Rattle.sheet.specs.Tests.{first}
+use Rattle.sheet.proofs.Judged.{met-left, met-right}
 use Rattle.walk.specs.Answers.{Rows}
 use Rattle.walk.specs.Calls.{rowsOf, twelveTests}
-use Prim.Native.Nat.{ℕ, suc, _≤_, _<_}
+use Prim.Native.Nat.{ℕ, suc, _≤_}
 use native.Mathlib.Nat.{le-refl, le-of-lt}
-use borrow.Author.Tests.{lt-ltb, le-ltb, le-leb}
+use borrow.Author.Tests.{lt-ltb, le-leb}
 use mir.Syntax.{w64}
 use mir.Val.{toZ, ofZ}
 use mir.ValLaws.{toZ-ofZ}
 use lib.IntN.{ℤ, natAbs}
 use Rattle.cash.specs.Hedges.{hedgeOf}
-use Rattle.rows.specs.Limits.{Tranched, bare}
+use Rattle.rows.specs.Limits.{Tranched}
 use Rattle.rows.proofs.Losses.{limits-bare}
 use Rattle.walk.specs.Table.{jump}
 use Rattle.walk.specs.Reads.{Readable, hedgeAnswer}
 use Rattle.walk.proofs.Ordering.{OnWay}
 use Rattle.walk.proofs.Bounds.{rows-limits}
-use Rattle.walk.proofs.Ends.{on-way, readable, readable-told, jump-told, jump-few, ratio-not, ratio-off, ratio-done, off-tranche, off-count}
+use Rattle.walk.proofs.Ends.{on-way, readable, readable-told, jump-told, jump-few, ratio-not, ratio-off, ratio-done}
 use Rattle.walk.proofs.Walk.hedge_ratio.Statement.{statement}
 use Rattle.walk.proofs.Walk.hedge_ratio.Tie as tie
 
@@ -62,14 +63,14 @@ returns-2 : tie.Need-returns-2
 returns-2 c =
     let t = c .before .before in
     let s = start (t .before .before) in
-    ratio-off (sheet s) (s .args .register .now) (s .args .self) (rows s) (passed t) (s .args .tranche) (s .args .count) (off-tranche _ _ (lt-ltb _ _ (c .if1 .taken)))
+    ratio-off (sheet s) (s .args .register .now) (s .args .self) (rows s) (passed t) (s .args .tranche) (s .args .count) (met-left _ _ (lt-ltb _ _ (c .if1 .taken)))
 
 returns-3 : tie.Need-returns-3
 returns-3 c =
     let i = c .before .before in
     let t = i .before .before in
     let s = start (t .before .before) in
-    ratio-off (sheet s) (s .args .register .now) (s .args .self) (rows s) (passed t) (s .args .tranche) (s .args .count) (off-count _ _ (le-ltb _ _ (i .if1 .left)) (le-leb _ _ (c .if2 .taken)))
+    ratio-off (sheet s) (s .args .register .now) (s .args .self) (rows s) (passed t) (s .args .tranche) (s .args .count) (met-right (ltb (s .args .pool .tranches) (s .args .tranche)) _ (le-leb _ _ (c .if2 .taken)))
 
 -- ---- a node on the tree with a next count
 

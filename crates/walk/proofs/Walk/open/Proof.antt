@@ -7,7 +7,7 @@ use Rattle.sheet.specs.Tests.{poolBad}
 use Rattle.walk.specs.Answers.{Rows}
 use Rattle.walk.specs.Calls.{rowsOf, rowsBad}
 use Rattle.walk.proofs.Lengths.{rows-told}
-use Rattle.walk.proofs.Opened.{open-refused, open-done}
+use Rattle.walk.proofs.Ends.{open-not, open-done}
 use Rattle.walk.proofs.Tied.{open-promised}
 use Rattle.walk.proofs.Walk.open.Statement.{statement}
 use Rattle.walk.proofs.Walk.open.Tie as tie
@@ -44,7 +44,7 @@ returns : tie.Need-returns
 returns c =
     let p = c .before .before .before in
     let s = start p in
-    let e = open-refused (sheet s) (s .args .register .now) (s .args .self) (rows s) _ (told p) (sym (p .to-ten .ensures) ∙ c .before .found .given .1) in
+    let e = open-not (sheet s) (s .args .register .now) (s .args .self) (rows s) _ (told p) (sym (p .to-ten .ensures) ∙ c .before .found .given .1) in
     (e, open-promised _ _ _ _ e)
 
 enum-told : tie.Need-enum-told

@@ -1,16 +1,16 @@
 -- By the checks 1 to 12, then by the node. Assumes nothing.
 use borrow.Author.Needs.{needs}
-use mathlib.Core.Path.{_≡_, sym, _∙_, ap}
+use mathlib.Core.Path.{_≡_, sym, _∙_}
 use mathlib.Core.List.{[]}
-use native.Mathlib.Omega.{arith}
+use lib.Dec.{ltb}
 use Rattle.sheet.specs.Brought.{Brought, brought}
 use Rattle.sheet.specs.declared.Found.the-variants.{Fine}
 use Rattle.sheet.specs.Tests.{first}
+use Rattle.sheet.proofs.Judged.{met-left, met-right}
 use Rattle.walk.specs.Answers.{Rows}
 use Rattle.walk.specs.Calls.{rowsOf, twelveTests}
-use borrow.Author.Tests.{lt-ltb, le-ltb}
-use Rattle.walk.specs.Calls.{worth}
-use Rattle.walk.proofs.Ends.{on-way, readable, readable-told, worth-told, value-not, value-off, value-done, off-tranche, off-count}
+use borrow.Author.Tests.{lt-ltb}
+use Rattle.walk.proofs.Ends.{on-way, readable, readable-told, worth-told, value-not, value-off, value-done}
 use Rattle.walk.proofs.Tied.{value-promised}
 use Rattle.walk.proofs.Walk.value.Statement.{statement}
 use Rattle.walk.proofs.Walk.value.Tie as tie
@@ -49,7 +49,7 @@ returns-2 : tie.Need-returns-2
 returns-2 c =
     let t = c .before .before in
     let s = start (t .before .before) in
-    let e = value-off (sheet s) (s .args .register .now) (s .args .self) (rows s) (passed t) (s .args .tranche) (s .args .count) (off-tranche _ _ (lt-ltb _ _ (c .if1 .taken))) in
+    let e = value-off (sheet s) (s .args .register .now) (s .args .self) (rows s) (passed t) (s .args .tranche) (s .args .count) (met-left _ _ (lt-ltb _ _ (c .if1 .taken))) in
     (e, value-promised _ _ _ _ _ _ e)
 
 returns-3 : tie.Need-returns-3
@@ -57,7 +57,7 @@ returns-3 c =
     let i = c .before .before in
     let t = i .before .before in
     let s = start (t .before .before) in
-    let e = value-off (sheet s) (s .args .register .now) (s .args .self) (rows s) (passed t) (s .args .tranche) (s .args .count) (off-count _ _ (le-ltb _ _ (i .if1 .left)) (lt-ltb _ _ (c .if2 .taken))) in
+    let e = value-off (sheet s) (s .args .register .now) (s .args .self) (rows s) (passed t) (s .args .tranche) (s .args .count) (met-right (ltb (s .args .pool .tranches) (s .args .tranche)) _ (lt-ltb _ _ (c .if2 .taken))) in
     (e, value-promised _ _ _ _ _ _ e)
 
 worth-at-requires : tie.Need-worth-at-requires

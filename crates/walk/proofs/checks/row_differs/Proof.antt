@@ -2,7 +2,9 @@
 use borrow.Author.Needs.{needs}
 use native.Mathlib.Omega.{arith}
 use Rattle.sheet.proofs.Meanings.{pool-fine}
-use Rattle.walk.proofs.Lengths.{row-register, row-row}
+use Rattle.sheet.proofs.Judged.{broken}
+use Rattle.walk.proofs.Ordering.{row-fine}
+use Rattle.walk.proofs.Lengths.{row-row}
 use Rattle.walk.proofs.checks.row_differs.Statement.{statement}
 use Rattle.walk.proofs.checks.row_differs.Tie as tie
 
@@ -10,7 +12,7 @@ returns : tie.Need-returns
 returns c e = absurd (let p = pool-fine _ .0 e in omega arith)
 
 returns-2 : tie.Need-returns-2
-returns-2 c e = row-register _ _ _ (c .if2 .taken)
+returns-2 c e = broken (row-fine _ _ _) (λ p. c .if2 .taken (p .0))
 
 add-result : tie.Need-add-result
 add-result c = search needs

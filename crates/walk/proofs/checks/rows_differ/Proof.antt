@@ -1,15 +1,11 @@
 -- Assumes nothing.
 use borrow.Author.Needs.{needs}
-use Prim.Native.Nat.{ℕ, _+_, _*_, _≤_}
-use mathlib.Core.Path.{_≡_}
-use mathlib.Core.Bool.{false}
-use mathlib.Core.List.{[]}
-use native.Mathlib.Nat.{mul-le-mul}
 use native.Mathlib.Omega.{arith}
-use Rattle.rows.specs.Rows.{sheetOf}
-use Rattle.sheet.specs.Tests.{poolBad}
+use Rattle.rows.proofs.Lent.{enough}
 use Rattle.sheet.proofs.Meanings.{pool-fine}
-use Rattle.walk.proofs.Lengths.{rows-register, rows-default, rows-premium}
+use Rattle.sheet.proofs.Judged.{broken}
+use Rattle.walk.proofs.Ordering.{rows-fine}
+use Rattle.walk.proofs.Lengths.{rows-premium}
 use Rattle.walk.proofs.checks.rows_differ.Statement.{statement}
 use Rattle.walk.proofs.checks.rows_differ.Tie as tie
 
@@ -20,7 +16,7 @@ returns-2 : tie.Need-returns-2
 returns-2 c e = absurd (let p = pool-fine _ .0 e in omega arith)
 
 returns-3 : tie.Need-returns-3
-returns-3 c e = rows-register _ _ _ (c .if3 .taken)
+returns-3 c e = broken (rows-fine _ _ _) (λ p. c .if3 .taken (p .0 .0))
 
 add-size : tie.Need-add-size
 add-size c = search needs
@@ -31,12 +27,10 @@ add-size-2 c = search needs
 mul-size : tie.Need-mul-size
 mul-size c =
     let p = c .before .before .before .before .before .before .before .args .pool in
-    let few : p .tranches + 1 ≤ 9 = omega arith in
-    let some : p .names + 1 ≤ 126 = omega arith in
-    omega (arith, mul-le-mul few some)
+    omega (arith, enough (p .tranches) (p .names) (omega arith) (omega arith))
 
 returns-4 : tie.Need-returns-4
-returns-4 c e = rows-default _ _ _ (search needs) (c .if4 .taken)
+returns-4 c e = broken (rows-fine _ _ _) (λ p. c .if4 .taken (p .0 .1))
 
 returns-5 : tie.Need-returns-5
 returns-5 c e = rows-premium _ _ _ (search needs) (search needs)

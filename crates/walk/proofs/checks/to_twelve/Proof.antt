@@ -1,17 +1,18 @@
 -- The first ten checks, then the walk, then the rows. Assumes nothing.
 use borrow.Author.Needs.{needs}
 use mathlib.Core.Path.{_≡_, sym, _∙_}
-use mathlib.Core.Bool.{Bool, true, false}
+use mathlib.Core.Bool.{false}
 use mathlib.Core.List.{[]}
 use Rattle.sheet.specs.Brought.{Brought, brought}
 use Rattle.sheet.specs.declared.Found.the-variants.{Fine}
 use Rattle.sheet.specs.Tests.{first, poolBad}
 use Rattle.walk.specs.Answers.{Rows}
 use Rattle.walk.specs.Calls.{rowsOf, rowsBad, walkBad, tenTests}
-use Rattle.walk.proofs.Lengths.{RowsFit, rows-told, rows-fit}
+use Rattle.walk.proofs.Ordering.{Opening}
+use Rattle.walk.proofs.Lengths.{rows-told}
 use Rattle.walk.proofs.Firsts.{walk-told, twelve-ten, twelve-walk, twelve-over, twelve-clean}
-use Rattle.walk.proofs.Passed.{Inside, inside-by}
 use Rattle.walk.proofs.Bounds.{rows-limits, row-size}
+use Rattle.walk.proofs.Ends.{opening}
 use Rattle.walk.proofs.checks.to_twelve.Statement.{statement}
 use Rattle.walk.proofs.checks.to_twelve.Tie as tie
 
@@ -50,11 +51,8 @@ enum-told c = search needs
 ten : (c : tie.After-enum-told) → let p = c .before .before in first (tenTests (sheet (start p)) (start p .args .register .now) (p .before .rows-differ .result) []) ≡ Fine
 ten c = sym (c .before .before .to-ten .ensures) ∙ c .enum-told .given .1
 
-inside : (c : tie.After-enum-told) → let s = start (c .before .before) in Inside (sheet s) (rowsBad (sheet s) (s .args .register .now) (rows s))
-inside c = let p = c .before .before in inside-by _ _ _ _ [] (told p) (ten c)
-
-fit : (c : tie.After-enum-told) → let s = start (c .before .before) in RowsFit (sheet s) (s .args .register .now) (rows s)
-fit c = let s = start (c .before .before) in rows-fit (sheet s) (s .args .register .now) (rows s) (inside c .same)
+inside : (c : tie.After-enum-told) → let s = start (c .before .before) in Opening (sheet s) (s .args .register .now) (rows s)
+inside c = let p = c .before .before in opening _ _ (start p .args .walk) _ _ (told p) (ten c)
 
 off-walk-requires : tie.Need-off-walk-requires
 off-walk-requires c κs = search needs
@@ -72,7 +70,8 @@ is-soiled-requires : tie.Need-is-soiled-requires
 is-soiled-requires c κs =
     let e = c .before .before in
     let s = start (e .before .before) in
-    (rows-limits (sheet s) (inside e .limits), (row-size (sheet s .sheet) (fit e .defaults), row-size (sheet s .sheet) (fit e .premiums)))
+    let o = inside e in
+    (rows-limits (sheet s) (o .limits), (row-size (sheet s .sheet) (o .lent .defaults), row-size (sheet s .sheet) (o .lent .premiums)))
 
 returns-3 : tie.Need-returns-3
 returns-3 c =

@@ -1,23 +1,17 @@
 -- Assumes nothing.
 use borrow.Author.Needs.{needs, sfits-of}
-use mathlib.Core.Path.{_≡_, sym, _∙_, ap}
-use Prim.Native.Nat.{ℕ, _+_, _*_, _≤_, _<_}
-use native.Mathlib.Omega.{arith}
+use mathlib.Core.Path.{_≡_, _∙_, ap}
 use mathlib.Core.List.{[]}
 use Prim.Native.Nat.{suc}
 use mir.Syntax.{w64}
 use mir.ValLaws.{toZ-ofZ}
 use lib.ListN.{getD}
 use native.Mathlib.Numerals.{add-one}
-use Rattle.cash.specs.Units.{B}
-use Rattle.cash.specs.declared.Node.{Node}
-use Rattle.cash.specs.Hedges.{Figures, jumpOf}
-use Rattle.rows.specs.Limits.{Tranched, bare}
+use Rattle.cash.specs.Hedges.{jumpOf}
 use Rattle.sheet.specs.Brought.{Brought, brought}
 use Rattle.walk.specs.Answers.{Rows}
 use Rattle.walk.specs.Table.{nodeOf, jump}
 use Rattle.walk.specs.Calls.{rowsOf}
-use Rattle.walk.specs.Reads.{Readable}
 use Rattle.walk.proofs.Bounds.{node-figures}
 use Rattle.walk.proofs.figures.jump_at.Statement.{statement}
 use Rattle.walk.proofs.figures.jump_at.Tie as tie

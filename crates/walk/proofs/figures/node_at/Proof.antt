@@ -1,13 +1,11 @@
 -- Assumes nothing.
 use borrow.Author.Needs.{needs}
-use mathlib.Core.Path.{_≡_, sym, _∙_, ap}
 use Prim.Native.Nat.{ℕ, _+_, _*_, _≤_, _<_}
 use native.Mathlib.Omega.{arith}
-use lib.ListN.{length, getD}
 use Rattle.rows.specs.Limits.{bare}
-use Rattle.rows.specs.Rows.{nodeIn}
 use Rattle.walk.specs.Table.{nodeOf}
-use Rattle.walk.proofs.Bounds.{place-below, size-few, node-place}
+use Rattle.rows.proofs.Lent.{enough}
+use Rattle.walk.proofs.Bounds.{place-below, node-place}
 use Rattle.walk.proofs.figures.node_at.Statement.{statement}
 use Rattle.walk.proofs.figures.node_at.Tie as tie
 
@@ -19,7 +17,7 @@ below : (s : tie.Start) → place s < (s .args .pool .tranches + 1) * (s .args .
 below s = place-below (s .args .tranche) (s .args .count) (s .args .pool .tranches) (s .args .pool .names) (s .pre .1 .0 .0) (s .pre .1 .0 .1)
 
 few : (s : tie.Start) → (s .args .pool .tranches + 1) * (s .args .pool .names + 1) ≤ 1134
-few s = size-few (s .args .pool .tranches) (s .args .pool .names) (s .pre .0 .tranches-most) (s .pre .0 .names-most)
+few s = enough (s .args .pool .tranches) (s .args .pool .names) (s .pre .0 .tranches-most) (s .pre .0 .names-most)
 
 add-place : tie.Need-add-place
 add-place c = search needs

@@ -1,20 +1,19 @@
 -- Assumes nothing.
 use borrow.Author.Needs.{needs, sfits-of}
-use mathlib.Core.Path.{_≡_, sym, _∙_, ap}
+use mathlib.Core.Path.{_≡_, _∙_}
 use Prim.Native.Nat.{ℕ, _+_, _*_, _≤_, _<_}
 use native.Mathlib.Omega.{arith}
 use mir.Syntax.{w64}
 use mir.ValLaws.{toZ-ofZ}
 use mathlib.Core.List.{[]}
-use lib.IntN.{ℤ}
-use lib.ListN.{length, getD}
-use Rattle.cash.specs.Units.{B}
+use lib.ListN.{getD}
 use Rattle.cash.specs.Hedges.{netValue}
 use Rattle.rows.specs.Rows.{nodeIn}
 use Rattle.sheet.specs.Brought.{Brought, brought}
 use Rattle.walk.specs.declared.Answer.the-variants.{Worth}
 use Rattle.walk.specs.Calls.{worth}
-use Rattle.walk.proofs.Bounds.{place-below, size-few, node-place}
+use Rattle.rows.proofs.Lent.{enough}
+use Rattle.walk.proofs.Bounds.{place-below, node-place}
 use Rattle.walk.proofs.figures.worth_at.Statement.{statement}
 use Rattle.walk.proofs.figures.worth_at.Tie as tie
 
@@ -29,7 +28,7 @@ below : (s : tie.Start) → place s < (s .args .pool .tranches + 1) * (s .args .
 below s = place-below (s .args .tranche) (s .args .count) (s .args .pool .tranches) (s .args .pool .names) (s .pre .tranche) (s .pre .count)
 
 few : (s : tie.Start) → (s .args .pool .tranches + 1) * (s .args .pool .names + 1) ≤ 1134
-few s = size-few (s .args .pool .tranches) (s .args .pool .names) (s .pre .tranches) (s .pre .names)
+few s = enough (s .args .pool .tranches) (s .args .pool .names) (s .pre .tranches) (s .pre .names)
 
 default-here : (s : tie.Start) → getD (s .args .defaults .now) (place s) 0 ≡ nodeIn (sheet s .sheet) (s .args .defaults .now) (s .args .tranche) (s .args .count)
 default-here s = node-place (sheet s .sheet) (s .args .defaults .now) (s .args .tranche) (s .args .count)
