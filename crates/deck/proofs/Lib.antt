@@ -1,0 +1,5 @@
+pub mod Widths
+pub mod Going
+pub mod Reaching
+pub mod Printing
+pub mod Example

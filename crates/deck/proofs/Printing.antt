@@ -1,0 +1,68 @@
+-- What a run leaves in out, on plain values. Assumes nothing.
+use Prim.Native.Nat.{ℕ, _+_, _*_, _≤_, _<_, min}
+use mathlib.Core.Path.{_≡_, refl, sym, ap, _∙_}
+use mathlib.Core.Bool.{Bool, true, false}
+use mathlib.Core.List.{List, [], _∷_, _++_}
+use native.Mathlib.Nat.{zero-add}
+use native.Mathlib.Omega.{arith}
+use borrow.Author.Tests.{lt-ltb, le-ltb}
+use lib.Dec.{ltb}
+use lib.ListN.{length, drop, length-append}
+use lib.Seq.{sets, sets-eq}
+use Rattle.lines.specs.Text.{Wrote}
+use Rattle.desk.specs.Desk.{blank}
+use Rattle.render.specs.Lines.{deckLine}
+use Rattle.deck.specs.declared.Ran.the-variants.{Printed, NoRoom}
+use Rattle.deck.specs.Listing.{listingFrom, listing, room, Printout, printout, printing}
+
+-- a deck that is too long, and one that is not
+pub oversized : (deck : List ℕ) → 65536 < length deck → deckLine 20 65536 ≡ listing deck
+unfolding listing
+oversized deck h = sym (rw (lt-ltb 65536 (length deck) h, listing))
+
+pub sized : (deck : List ℕ) → length deck ≤ 65536 → listingFrom (length deck) deck 0 blank ≡ listing deck
+unfolding listing
+sized deck h = sym (rw (le-ltb 65536 (length deck) h, listing))
+
+-- the room of a deck
+pub room-least : (bytes : ℕ) → 96 ≤ room bytes
+unfolding room
+room-least bytes = omega arith
+
+pub room-sized : (bytes : ℕ) → bytes ≤ 65536 → room bytes ≡ 32 * bytes + 96
+unfolding room
+room-sized bytes h = omega arith
+
+pub no-room : (deck out : List ℕ) → length out < room (length deck) → printout NoRoom out ≡ printing deck out
+unfolding printing
+no-room deck out h = sym (rw (lt-ltb (length out) (room (length deck)) h, printing))
+
+pub printed : (deck out after text : List ℕ) (r : ℕ) → room (length deck) ≤ length out → text ≡ listing deck → Wrote out 0 text after r → r ≤ length out →
+    printout (Printed r) after ≡ printing deck out
+unfolding printing
+printed deck out after text r fits is w within =
+    let long : r ≡ length text = w .stop ∙ zero-add (length text) in
+    let front : after ≡ text ++ drop (length text) out =
+    w .bytes ∙ sets-eq text out 0 (omega (arith, long)) ∙ ap (λ (n : ℕ). text ++ drop n out) (zero-add (length text)) in
+    (λ j. printout (Printed (long j)) (front j))
+    ∙ ap (λ (l : List ℕ). printout (Printed (length l)) (l ++ drop (length l) out)) is
+    ∙ sym (rw (le-ltb (length out) (room (length deck)) fits, printing))
+
+-- ---- for callers: what is printed stands in out
+
+no-such : {r : ℕ} {out after : List ℕ} → printout NoRoom out ≡ printout (Printed r) after → ⊥
+no-such {r} {out} {after} e = let n : NoRoom ≡ Printed r = ap (λ (p : Printout). p .answer) e in let z : _≡_ {A = ℕ} 0 1 = cc in omega arith
+
+pub printed-within : (deck out after : List ℕ) (r : ℕ) → printout (Printed r) after ≡ printing deck out → r ≤ length after
+unfolding printing
+printed-within deck out after r e = go (ltb (length out) (room (length deck))) refl
+  where
+    go : (b : Bool) → ltb (length out) (room (length deck)) ≡ b → r ≤ length after
+    go true t = let p : printout (Printed r) after ≡ printout NoRoom out = e ∙ rw (t, printing) in absurd (no-such (sym p))
+    go false t =
+        let p : printout (Printed r) after ≡ printout (Printed (length (listing deck))) (listing deck ++ drop (length (listing deck)) out) =
+        e ∙ rw (t, printing) in
+        let n : Printed r ≡ Printed (length (listing deck)) = ap (λ (q : Printout). q .answer) p in
+        let m : r ≡ length (listing deck) = cc in
+        let a : length after ≡ length (listing deck ++ drop (length (listing deck)) out) = ap (λ (q : Printout). length (q .out)) p in
+        omega (arith, m, a, length-append (listing deck) (drop (length (listing deck)) out))

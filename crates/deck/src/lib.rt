@@ -1,0 +1,58 @@
+// A whole deck: its commands are run one after the other, and what they print is written.
+ghost use mathlib.Core.Path.{_≡_};
+ghost use Rattle.deck.specs.Listing.{room as roomOf, printout, printing};
+
+mod turns; // turns.rt: one command's turn, and the turns of a deck
+
+// The most bytes of a deck.
+pub const MOST: usize = 65536;
+
+// How many bytes of the listing were printed; or that out has not the room that any deck of that length fits in.
+pub enum Ran {
+    Printed(usize),
+    NoRoom,
+}
+
+// The room for the listing of a deck of so many bytes.
+pub fn room(bytes: usize) -> usize
+    ensures { λ r. ⌜ r ≡ roomOf bytes ⌝ }
+{
+    if bytes < MOST {
+        return 32 * bytes + 96;
+    }
+    32 * MOST + 96
+}
+
+// Prints the listing of a deck at the start of out.
+pub fn run(deck: &[u8], out: &mut [u8]) -> Ran
+    ensures { λ r. ⌜ printout r (now (out .exit)) ≡ printing (now (deck .entry)) (now (out .entry)) ⌝ }
+{
+    if out.len() < room(deck.len()) {
+        return Ran::NoRoom;
+    }
+    if MOST < deck.len() {
+        return Ran::Printed(render::put_deck(out, 0, 20, MOST));
+    }
+    let mut attachments = [0u64; 9];
+    let mut hazards = [0u64; 125];
+    let mut discounts = [0u64; 3650];
+    let mut accruals = [0u64; 3650];
+    let mut coupons = [0u64; 9];
+    let mut register = [0xFFu8; 256];
+    let mut defaults = [0u64; 1134];
+    let mut premiums = [0u64; 1134];
+    let mut row = [0u64; 126];
+    Ran::Printed(turns::all(
+        deck,
+        &mut attachments,
+        &mut hazards,
+        &mut discounts,
+        &mut accruals,
+        &mut coupons,
+        &mut register,
+        &mut defaults,
+        &mut premiums,
+        &mut row,
+        out,
+    ))
+}

@@ -1,0 +1,4 @@
+pub mod Desk
+pub mod Entries
+pub mod Orders
+pub mod Held

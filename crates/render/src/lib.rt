@@ -1,0 +1,88 @@
+// The lines of a listing, written into a lent buffer from a place on. Each function answers the place after what it wrote.
+ghost use mathlib.Core.Path.{_≡_};
+ghost use Prim.Native.Nat.{_+_, _≤_};
+ghost use lib.ListN.{length};
+ghost use Rattle.lines.specs.Text.{Wrote};
+ghost use Rattle.desk.specs.Held.{answerSaid};
+ghost use Rattle.render.specs.Lines.{word, told, orderLine, deckLine, width};
+use commands::Order;
+use desk::Answer;
+
+// The word of an order.
+fn put_word(out: &mut [u8], at: usize, order: Order) -> usize
+    requires { ⌜ at + 8 ≤ length (now out) ⌝ }
+    ensures { λ r. ⌜ Wrote (now (out .entry)) at (word order) (now (out .exit)) r ⌝ }
+{
+    match order {
+        Order::Issue(_) => lines::put_bytes(out, at, b"issue"),
+        Order::Withdraw(_) => lines::put_bytes(out, at, b"withdraw"),
+        Order::Open => lines::put_bytes(out, at, b"open"),
+        Order::Back(_) => lines::put_bytes(out, at, b"back"),
+        Order::Value {
+            tranche: _,
+            count: _,
+        } => lines::put_bytes(out, at, b"value"),
+        Order::Delta {
+            tranche: _,
+            count: _,
+        } => lines::put_bytes(out, at, b"delta"),
+        Order::Forward { step: _, count: _ } => lines::put_bytes(out, at, b"forward"),
+    }
+}
+
+// A refusal, or 0 and the answer.
+fn put_answer(out: &mut [u8], at: usize, answer: Answer) -> usize
+    requires { ⌜ at + 67 ≤ length (now out) ⌝ }
+    ensures writes { λ r. ⌜ Wrote (now (out .entry)) at (told (answerSaid answer)) (now (out .exit)) r ⌝ }
+    ensures short { λ r. ⌜ r ≤ at + width (answerSaid answer) ⌝ }
+{
+    match answer {
+        Answer::Refused(number) => {
+            return lines::put_count(out, at, number as u64);
+        }
+        Answer::Done => {
+            return lines::put_count(out, at, 0);
+        }
+        Answer::Position(position) => {
+            let b = lines::put_count(out, at, 0);
+            return lines::put_count(out, b, position as u64);
+        }
+        Answer::Worth(d, a, w) => {
+            let b = lines::put_count(out, at, 0);
+            let c = lines::put_count(out, b, d);
+            let e = lines::put_count(out, c, a);
+            return lines::put_field(out, e, w);
+        }
+        Answer::Ratio(ratio) => {
+            let b = lines::put_count(out, at, 0);
+            return lines::put_field(out, b, ratio);
+        }
+        Answer::Probability(q) => {
+            let b = lines::put_count(out, at, 0);
+            return lines::put_count(out, b, q);
+        }
+    }
+}
+
+// The line of an order.
+pub fn put_line(out: &mut [u8], at: usize, order: Order, answer: Answer) -> usize
+    requires { ⌜ at + 76 ≤ length (now out) ⌝ }
+    ensures writes { λ r. ⌜ Wrote (now (out .entry)) at (orderLine order (answerSaid answer)) (now (out .exit)) r ⌝ }
+    ensures short { λ r. ⌜ r ≤ at + 9 + width (answerSaid answer) ⌝ }
+{
+    let b = put_word(out, at, order);
+    let c = put_answer(out, b, answer);
+    lines::put_end(out, c)
+}
+
+// The line that ends a run: a refusal and the offset of the command byte.
+pub fn put_deck(out: &mut [u8], at: usize, number: u8, offset: usize) -> usize
+    requires { ⌜ at + 30 ≤ length (now out) ⌝ }
+    ensures writes { λ r. ⌜ Wrote (now (out .entry)) at (deckLine number offset) (now (out .exit)) r ⌝ }
+    ensures short { λ r. ⌜ r ≤ at + 30 ⌝ }
+{
+    let b = lines::put_bytes(out, at, b"deck");
+    let c = lines::put_count(out, b, number as u64);
+    let d = lines::put_count(out, c, offset as u64);
+    lines::put_end(out, d)
+}
