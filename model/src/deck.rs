@@ -31,8 +31,37 @@ const VALUE: u8 = 0x0A;
 const DELTA: u8 = 0x0B;
 const FORWARD: u8 = 0x0C;
 
+type Open = fn(Walk, &Sheet, &[u8], &mut [u64], &mut [u64]) -> (Walk, Result<(), Refusal>);
+type Back =
+    fn(Walk, &Sheet, &[u8], usize, &mut [u64], &mut [u64]) -> (Walk, Result<usize, Refusal>);
+type Value =
+    fn(Walk, &Sheet, &[u8], usize, usize, &[u64], &[u64]) -> (Walk, Result<walk::Value, Refusal>);
+type HedgeRatio =
+    fn(Walk, &Sheet, &[u8], usize, usize, &[u64], &[u64]) -> (Walk, Result<i128, Refusal>);
+type Forward = fn(&Sheet, &[u8], usize, &mut [u64]) -> Result<(), Refusal>;
+
+/// The calls that a deck is run by. The benchmark brings faster ones.
+#[derive(Clone, Copy)]
+pub struct Calls {
+    pub open: Open,
+    pub back: Back,
+    pub value: Value,
+    pub hedge_ratio: HedgeRatio,
+    pub forward: Forward,
+}
+
+/// The model's own.
+pub const CALLS: Calls = Calls {
+    open: walk::open,
+    back: walk::back,
+    value: walk::value,
+    hedge_ratio: walk::hedge_ratio,
+    forward: walk::forward,
+};
+
 /// What the program keeps from command to command.
 struct Program {
+    calls: Calls,
     has_pool: bool,
     sheet: Sheet,
     register: Vec<u8>,
@@ -46,8 +75,9 @@ struct Program {
 }
 
 impl Program {
-    fn new() -> Program {
+    fn new(calls: Calls) -> Program {
         Program {
+            calls,
             has_pool: false,
             sheet: empty_sheet(),
             register: register::blank(),
@@ -82,10 +112,15 @@ fn empty_sheet() -> Sheet {
 
 /// Runs a deck from a blank register and returns all that it prints.
 pub fn listing(deck: &[u8]) -> Vec<u8> {
+    listing_by(CALLS, deck)
+}
+
+/// The same by other calls.
+pub fn listing_by(calls: Calls, deck: &[u8]) -> Vec<u8> {
     if deck.len() > MAX_DECK {
         return deck_line(Refusal::TooMany, MAX_DECK).into_bytes();
     }
-    let mut program = Program::new();
+    let mut program = Program::new(calls);
     let mut printed = String::new();
     let mut offset = 0;
     while offset < deck.len() {
@@ -215,7 +250,7 @@ fn call(program: &mut Program, command: u8, operands: &[u8]) -> String {
 
 fn open(program: &mut Program) -> Result<(), Refusal> {
     let length = program.lent_length();
-    let (walk, answer) = walk::open(
+    let (walk, answer) = (program.calls.open)(
         program.walk,
         &program.sheet,
         &program.register,
@@ -228,7 +263,7 @@ fn open(program: &mut Program) -> Result<(), Refusal> {
 
 fn back(program: &mut Program, steps: usize) -> Result<usize, Refusal> {
     let length = program.lent_length();
-    let (walk, answer) = walk::back(
+    let (walk, answer) = (program.calls.back)(
         program.walk,
         &program.sheet,
         &program.register,
@@ -243,7 +278,7 @@ fn back(program: &mut Program, steps: usize) -> Result<usize, Refusal> {
 /// D, A and W.
 fn value(program: &mut Program, tranche: usize, count: usize) -> Result<Vec<i128>, Refusal> {
     let length = program.lent_length();
-    let (walk, answer) = walk::value(
+    let (walk, answer) = (program.calls.value)(
         program.walk,
         &program.sheet,
         &program.register,
@@ -263,7 +298,7 @@ fn value(program: &mut Program, tranche: usize, count: usize) -> Result<Vec<i128
 
 fn delta(program: &mut Program, tranche: usize, count: usize) -> Result<i128, Refusal> {
     let length = program.lent_length();
-    let (walk, answer) = walk::hedge_ratio(
+    let (walk, answer) = (program.calls.hedge_ratio)(
         program.walk,
         &program.sheet,
         &program.register,
@@ -280,7 +315,7 @@ fn delta(program: &mut Program, tranche: usize, count: usize) -> Result<i128, Re
 /// looks at k after all refusals of the call.
 fn forward(program: &Program, steps: usize, count: usize) -> Result<u64, Refusal> {
     let mut row = vec![0; program.sheet.names + 1];
-    walk::forward(&program.sheet, &program.register, steps, &mut row)?;
+    (program.calls.forward)(&program.sheet, &program.register, steps, &mut row)?;
     refuse_if(count > program.sheet.names, Refusal::OffTree)?;
     Ok(row[count])
 }

@@ -12,18 +12,29 @@
 //! - [`deck`]: the command deck and its printed listing
 //! - [`natural`]: whole numbers of any size
 //! - [`exact`]: unrounded values by brute force over lists of moves
+//! - [`trials`]: the trial entries that the engine's program runs
 //! - [`worked`]: the small sheet whose figures document 01 prints
+//! - [`random`]: random sheets by seed
+//! - [`decks`]: random decks by seed
+//! - [`fast`]: the calls once more, written for speed, for the benchmark
+//! - `engine`: the proved engine, with the feature of that name
 //!
 //! Words: a tranche is a "slice" of document 01, and attachment points are
 //! its "cuts". Tranche number r stands for the index throughout.
 
 pub mod cash;
 pub mod deck;
+pub mod decks;
+#[cfg(feature = "engine")]
+pub mod engine;
 pub mod exact;
+pub mod fast;
 pub mod natural;
+pub mod random;
 pub mod refusal;
 pub mod register;
 pub mod sheet;
 pub mod tree;
+pub mod trials;
 pub mod walk;
 pub mod worked;

@@ -40,7 +40,7 @@ impl Pair {
                 _ => row_length(sheet),
             };
             let bits = random.between(0, 64) as u32;
-            let mut entry = || random.next().checked_shr(bits).unwrap_or(0);
+            let mut entry = || random.draw().checked_shr(bits).unwrap_or(0);
             (0..length).map(|_| entry()).collect()
         };
         Pair {
@@ -394,7 +394,7 @@ fn any_call(random: &mut Random, subjects: &[Subject]) -> Call {
         8 => Call::Withdraw(any_number(random, subjects)),
         9..=13 => Call::Open(subject),
         14..=27 => Call::Back(subject, random.between(0, 3) as usize),
-        28 => Call::Back(subject, random.next() as usize),
+        28 => Call::Back(subject, random.draw() as usize),
         _ => {
             let tranche = random.between(0, sheet.tranches as u64 + 1) as usize;
             let count = random.between(0, sheet.names as u64 + 1) as usize;

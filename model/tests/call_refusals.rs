@@ -711,10 +711,10 @@ fn open_starts_at_the_last_step_with_zero_rows() {
         desk.walk = Walk {
             open: random.between(0, 1) == 0,
             number: random.between(0, 255) as u8,
-            position: random.next() as usize,
+            position: random.draw() as usize,
         };
         for entry in desk.default_row.iter_mut().chain(&mut desk.premium_row) {
-            *entry = random.next();
+            *entry = random.draw();
         }
         let mut expected = desk.clone();
         expected.default_row.fill(0);
@@ -781,7 +781,7 @@ fn accepted_calls_do_what_the_tree_says_and_no_more() {
         let row = distribution(&sheet, desk.forward_by);
         expected.forward_row = row.iter().map(|&chance| chance as u64).collect();
         let mut asked = desk.clone();
-        asked.forward_row = (0..=sheet.names).map(|_| random.next()).collect();
+        asked.forward_row = (0..=sheet.names).map(|_| random.draw()).collect();
         assert_eq!(asked.ask(Forward), Ok(vec![]));
         assert_eq!(asked, expected);
 
@@ -868,7 +868,7 @@ fn largest_sheet_is_walked_to_its_root() {
 fn any_figure(random: &mut Random) -> u64 {
     let edges = [0, 1, 2, 8, 9, 125, 126, 3_650, 3_651, 10_000_001, B, B + 1];
     match random.between(0, 3) {
-        0 => random.next(),
+        0 => random.draw(),
         1 => u64::MAX - random.between(0, 2),
         _ => edges[random.between(0, edges.len() as u64 - 1) as usize],
     }

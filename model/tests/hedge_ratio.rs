@@ -65,7 +65,7 @@ fn agrees_with_bounds_on_random_jumps() {
     for _ in 0..20_000 {
         let draw = |random: &mut Random| {
             let bits = random.between(1, 57);
-            let size = (random.next() >> (64 - bits)) as i128;
+            let size = (random.draw() >> (64 - bits)) as i128;
             if random.between(0, 1) == 0 {
                 size
             } else {

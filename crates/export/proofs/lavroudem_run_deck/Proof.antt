@@ -1,0 +1,23 @@
+-- Assumes nothing.
+use mathlib.Core.Path.{_∙_}
+use Rattle.export.specs.Figures.{bytesIn}
+use borrow.Author.Needs.{needs}
+use Rattle.export.proofs.lavroudem_run_deck.Statement.{statement}
+use Rattle.export.proofs.lavroudem_run_deck.Tie as tie
+
+run-requires : tie.Need-run-requires
+run-requires c κs = search needs
+
+bytes-in-requires : tie.Need-bytes-in-requires
+bytes-in-requires c κs = search needs
+
+same-length : tie.Need-same-length
+same-length c = search needs
+
+returns : tie.Need-returns
+returns c =
+    let e = c .before .before .before .run .ensures in
+    (c .bytes-in .ensures ∙ (λ t. bytesIn (e t .answer)), (λ t. e t .out))
+
+pub lavroudem-run-deck-spec : {M : Type 1} → statement M
+lavroudem-run-deck-spec = tie.close (tie.spec run-requires bytes-in-requires same-length returns)

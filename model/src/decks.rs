@@ -1,0 +1,266 @@
+//! Random decks by seed: whole ones, and ones with a limit broken, damaged,
+//! cut short, reordered, oversized or of noise.
+
+use crate::deck::MAX_DECK;
+use crate::random::Random;
+use crate::sheet::{Sheet, MAX_NAMES, MAX_STEPS, MAX_TRANCHES};
+
+const B: u64 = 1_000_000_000;
+
+/// Widths of the operands of commands 01 to 0C, in bytes.
+const WIDTHS: [usize; 12] = [9, 4, 4, 8, 4, 1, 1, 0, 2, 2, 2, 3];
+
+/// A deck as its commands, with their operands.
+type Commands = Vec<Vec<u8>>;
+
+/// A deck of a random kind, over a small tree.
+pub fn any(random: &mut Random) -> Vec<u8> {
+    let mut sheet = random.small_sheet();
+    match random.below(10) {
+        0..=3 => whole(random, &sheet).concat(),
+        4 | 5 => {
+            break_a_limit(random, &mut sheet);
+            whole(random, &sheet).concat()
+        }
+        6 => {
+            let mut deck = whole(random, &sheet).concat();
+            damage(random, &mut deck);
+            deck
+        }
+        7 => {
+            let mut deck = whole(random, &sheet).concat();
+            deck.truncate(random.below(deck.len() + 1));
+            deck
+        }
+        8 => {
+            let mut commands = whole(random, &sheet);
+            shuffle(random, &mut commands);
+            commands.concat()
+        }
+        _ => noise(random),
+    }
+}
+
+/// A deck with too many figures of a kind, or of too many bytes.
+pub fn oversized(random: &mut Random) -> Vec<u8> {
+    let sheet = random.small_sheet();
+    let mut commands = whole(random, &sheet);
+    let (extra, limit) = match random.below(5) {
+        0 => (with_figure(0x02, 5), MAX_TRANCHES + 2),
+        1 => (with_figure(0x03, 5), MAX_NAMES + 1),
+        2 => (step(B, 1), MAX_STEPS + 1),
+        3 => (with_figure(0x05, 5), MAX_TRANCHES + 2),
+        _ => (pool(&sheet), 1),
+    };
+    let place = random.below(commands.len());
+    for _ in 0..random.between(1, limit as u64) {
+        commands.insert(place, extra.clone());
+    }
+    let mut deck = commands.concat();
+    if random.one_in(3) {
+        let length = random.between(MAX_DECK as u64 - 2, MAX_DECK as u64 + 2) as usize;
+        deck.resize(length, 0x08);
+    }
+    deck
+}
+
+/// A deck of the largest tree, to the root in a few calls.
+pub fn longest(random: &mut Random) -> Vec<u8> {
+    let sheet = random.sheet(MAX_NAMES, MAX_STEPS, MAX_TRANCHES);
+    let mut commands = entries(random, &sheet);
+    commands.push(vec![0x06, sheet.number]);
+    commands.push(vec![0x08]);
+    let mut left = sheet.steps;
+    while left > 0 {
+        let count = left.min(random.between(1, 2_000) as usize);
+        commands.push(back(count));
+        commands.push(at_node(0x0A, random.below(9), random.below(126)));
+        commands.push(at_node(0x0B, random.below(9), random.below(126)));
+        left -= count;
+    }
+    commands.push(forward(sheet.steps, random.below(126)));
+    commands.push(vec![0x07, sheet.number]);
+    commands.push(at_node(0x0A, 0, 0));
+    commands.concat()
+}
+
+/// A deck that walks a sheet to the root in one call, and asks for the value
+/// of every tranche and the distribution there.
+pub fn of_sheet(sheet: &Sheet) -> Vec<u8> {
+    let mut commands = entries(&mut Random::new(0), sheet);
+    commands.push(vec![0x06, sheet.number]);
+    commands.push(vec![0x08]);
+    commands.push(back(sheet.steps));
+    for tranche in 0..=sheet.tranches {
+        commands.push(at_node(0x0A, tranche, 0));
+    }
+    commands.push(forward(sheet.steps, 0));
+    commands.concat()
+}
+
+// ---- commands
+
+fn pool(sheet: &Sheet) -> Vec<u8> {
+    let mut bytes = vec![0x01, sheet.names as u8];
+    bytes.extend((sheet.steps as u16).to_le_bytes());
+    bytes.push(sheet.tranches as u8);
+    bytes.extend((sheet.recovery as u32).to_le_bytes());
+    bytes.push(sheet.number);
+    bytes
+}
+
+fn with_figure(command: u8, figure: u64) -> Vec<u8> {
+    let mut bytes = vec![command];
+    bytes.extend((figure as u32).to_le_bytes());
+    bytes
+}
+
+fn step(discount: u64, accrual: u64) -> Vec<u8> {
+    let mut bytes = with_figure(0x04, discount);
+    bytes.extend((accrual as u32).to_le_bytes());
+    bytes
+}
+
+fn back(count: usize) -> Vec<u8> {
+    let mut bytes = vec![0x09];
+    bytes.extend((count as u16).to_le_bytes());
+    bytes
+}
+
+fn at_node(command: u8, tranche: usize, count: usize) -> Vec<u8> {
+    vec![command, tranche as u8, count as u8]
+}
+
+fn forward(steps: usize, count: usize) -> Vec<u8> {
+    let mut bytes = vec![0x0C];
+    bytes.extend((steps as u16).to_le_bytes());
+    bytes.push(count as u8);
+    bytes
+}
+
+// ---- decks
+
+/// The sheet, and then calls on it.
+fn whole(random: &mut Random, sheet: &Sheet) -> Commands {
+    let mut commands = entries(random, sheet);
+    commands.push(vec![0x06, sheet.number]);
+    commands.push(vec![0x08]);
+    for _ in 0..random.below(12) {
+        commands.push(call(random, sheet));
+    }
+    commands
+}
+
+/// The commands that make a sheet. They may come in any order, so the lists
+/// are dealt out at random, each in its own order.
+fn entries(random: &mut Random, sheet: &Sheet) -> Commands {
+    let figures = |command: u8, list: &[u64]| -> Commands {
+        list.iter()
+            .rev()
+            .map(|&f| with_figure(command, f))
+            .collect()
+    };
+    let steps = sheet.discounts.iter().zip(&sheet.accruals).rev();
+    let mut piles = [
+        vec![pool(sheet)],
+        figures(0x02, &sheet.attachments),
+        figures(0x03, &sheet.hazards),
+        steps.map(|(&v, &a)| step(v, a)).collect(),
+        figures(0x05, &sheet.coupons),
+    ];
+    let mut commands = Vec::new();
+    while piles.iter().any(|pile| !pile.is_empty()) {
+        let pile = random.below(piles.len());
+        commands.extend(piles[pile].pop());
+    }
+    commands
+}
+
+/// A call with operands that are most often on the tree.
+fn call(random: &mut Random, sheet: &Sheet) -> Vec<u8> {
+    let mut below = |most: usize| match random.below(10) {
+        0 => most + 1,
+        1 => random.below(256),
+        _ => random.below(most + 1),
+    };
+    let (steps, tranche, count) = (
+        below(sheet.steps),
+        below(sheet.tranches),
+        below(sheet.names),
+    );
+    match random.below(20) {
+        0 => vec![0x06, random.draw() as u8],
+        1 => vec![0x07, sheet.number],
+        2 => vec![0x07, random.draw() as u8],
+        3 => vec![0x08],
+        4..=8 => back(steps),
+        9..=12 => at_node(0x0A, tranche, count),
+        13..=16 => at_node(0x0B, tranche, count),
+        _ => forward(steps, count),
+    }
+}
+
+/// One figure of the sheet beyond its limit, or a list of another length.
+fn break_a_limit(random: &mut Random, sheet: &mut Sheet) {
+    let high = random.between(B + 1, u64::from(u32::MAX));
+    let (k, i, j) = (
+        random.below(sheet.names),
+        random.below(sheet.steps),
+        random.below(sheet.tranches + 1),
+    );
+    match random.below(16) {
+        0 => sheet.names = [0, 126, 255][random.below(3)],
+        1 => sheet.steps = [0, 3_651, 65_535][random.below(3)],
+        2 => sheet.tranches = [0, 9, 255][random.below(3)],
+        3 => sheet.attachments.push(B),
+        4 => drop(sheet.hazards.remove(k)),
+        5 => sheet.hazards.push(0),
+        6 => {
+            sheet.discounts.push(B);
+            sheet.accruals.push(1);
+        }
+        7 => drop(sheet.coupons.remove(j)),
+        8 => sheet.recovery = high,
+        9 => sheet.attachments.reverse(),
+        10 => sheet.attachments[j] = high,
+        11 => sheet.hazards[k] = high,
+        12 => sheet.discounts[i] = [0, high][random.below(2)],
+        13 => sheet.accruals[i] = high,
+        14 => sheet.accruals[sheet.steps - 1] = 0,
+        _ => sheet.coupons[j] = random.between(10_000_001, u64::from(u32::MAX)),
+    }
+}
+
+/// Some bytes changed, taken out or put in.
+fn damage(random: &mut Random, deck: &mut Vec<u8>) {
+    for _ in 0..random.between(1, 3) {
+        let place = random.below(deck.len());
+        let byte = random.draw() as u8;
+        match random.below(3) {
+            0 => deck[place] = byte,
+            1 => drop(deck.remove(place)),
+            _ => deck.insert(place, byte),
+        }
+    }
+}
+
+fn shuffle(random: &mut Random, commands: &mut Commands) {
+    for place in (1..commands.len()).rev() {
+        commands.swap(place, random.below(place + 1));
+    }
+}
+
+/// Commands with operands of any content.
+fn noise(random: &mut Random) -> Vec<u8> {
+    let mut deck = Vec::new();
+    for _ in 0..random.below(30) {
+        let command = random.below(WIDTHS.len());
+        deck.push(command as u8 + 1);
+        for _ in 0..WIDTHS[command] {
+            let small = random.one_in(2);
+            let byte = random.draw() as u8;
+            deck.push(if small { byte % 4 } else { byte });
+        }
+    }
+    deck
+}

@@ -1,0 +1,312 @@
+//! The calls once more, as one would write them for speed: 64-bit numbers,
+//! rows rolled in place, no allocation in a loop.
+//!
+//! The benchmark sets the engine beside this and not beside the wide, plain
+//! model. Refusals are those of the model's own checks where they cost
+//! nothing, and loops of its own where they do.
+
+use crate::refusal::{refuse_if, Refusal};
+use crate::register;
+use crate::sheet::{self, Sheet, MAX_NAMES, MAX_STEPS, MAX_TRANCHES};
+use crate::walk::{row_length, Value, Walk};
+
+const B: u64 = 1_000_000_000;
+const MAX_COUPON: u64 = 10_000_000;
+const ROOM: usize = (MAX_TRANCHES + 1) * (MAX_NAMES + 1);
+
+/// Divides by B; a half goes up.
+#[inline(always)]
+fn half(y: u64) -> u64 {
+    (y + B / 2) / B
+}
+
+/// Starts a walk at the last step.
+pub fn open(
+    walk: Walk,
+    sheet: &Sheet,
+    register: &[u8],
+    default_row: &mut [u64],
+    premium_row: &mut [u64],
+) -> (Walk, Result<(), Refusal>) {
+    if let Err(refusal) = check_for_rows(sheet, register, default_row, premium_row) {
+        return (walk, Err(refusal));
+    }
+    default_row.fill(0);
+    premium_row.fill(0);
+    let opened = Walk {
+        open: true,
+        number: sheet.number,
+        position: sheet.steps,
+    };
+    (opened, Ok(()))
+}
+
+/// Takes the rows back by `steps`; answers the new position.
+pub fn back(
+    walk: Walk,
+    sheet: &Sheet,
+    register: &[u8],
+    steps: usize,
+    default_row: &mut [u64],
+    premium_row: &mut [u64],
+) -> (Walk, Result<usize, Refusal>) {
+    let mut losses = [0; ROOM];
+    let checked = check_for_walk(walk, sheet, register, default_row, premium_row, &mut losses)
+        .and_then(|()| refuse_if(steps > walk.position, Refusal::OutOfSteps));
+    if let Err(refusal) = checked {
+        return (walk, Err(refusal));
+    }
+    roll_back(
+        sheet,
+        &losses,
+        default_row,
+        premium_row,
+        walk.position,
+        steps,
+    );
+    let position = walk.position - steps;
+    (Walk { position, ..walk }, Ok(position))
+}
+
+/// D, A and W of a tranche, or of the index, at a count.
+pub fn value(
+    walk: Walk,
+    sheet: &Sheet,
+    register: &[u8],
+    tranche: usize,
+    count: usize,
+    default_row: &[u64],
+    premium_row: &[u64],
+) -> (Walk, Result<Value, Refusal>) {
+    let answer = || {
+        let mut losses = [0; ROOM];
+        check_for_walk(walk, sheet, register, default_row, premium_row, &mut losses)?;
+        let off_tree = tranche > sheet.tranches || count > sheet.names;
+        refuse_if(off_tree, Refusal::OffTree)?;
+        let place = tranche * (sheet.names + 1) + count;
+        let (default, premium) = (default_row[place], premium_row[place]);
+        let net = 10_000_000 * default as i64 - sheet.coupons[tranche] as i64 * premium as i64;
+        Ok(Value {
+            default: default.into(),
+            premium: premium.into(),
+            net: net.into(),
+        })
+    };
+    (walk, answer())
+}
+
+/// Fills the lent row with Q for step `steps`.
+pub fn forward(
+    sheet: &Sheet,
+    register: &[u8],
+    steps: usize,
+    row: &mut [u64],
+) -> Result<(), Refusal> {
+    check_pool(sheet)?;
+    check_after_pool(sheet, register, row.len() != sheet.names + 1)?;
+    refuse_if(steps > sheet.steps, Refusal::OutOfSteps)?;
+    row.fill(0);
+    row[0] = B;
+    for _ in 0..steps {
+        push(row, &sheet.hazards);
+    }
+    Ok(())
+}
+
+/// One step forward, in place. What moves on from a count is kept until the
+/// next one, so that every move is taken from the old row.
+fn push(row: &mut [u64], hazards: &[u64]) {
+    let mut arriving = 0;
+    for (held, &hazard) in row.iter_mut().zip(hazards) {
+        let moved = half(*held * hazard);
+        *held = *held - moved + arriving;
+        arriving = moved;
+    }
+    row[hazards.len()] += arriving;
+}
+
+/// Both rows back by so many steps, for a sheet and rows that passed all
+/// checks.
+fn roll_back(
+    sheet: &Sheet,
+    losses: &[u64; ROOM],
+    default_row: &mut [u64],
+    premium_row: &mut [u64],
+    position: usize,
+    steps: usize,
+) {
+    let size = row_length(sheet);
+    let mut paid = [0; ROOM];
+    let mut left = [0; ROOM];
+    fill_tables(sheet, losses, &mut paid[..size], &mut left[..size]);
+    let counts = sheet.names + 1;
+    for i in (position - steps..position).rev() {
+        let discount = sheet.discounts[i];
+        for (row, paid) in default_row
+            .chunks_exact_mut(counts)
+            .zip(paid.chunks_exact(counts))
+        {
+            roll_defaults(row, &sheet.hazards, discount, paid);
+        }
+        let accrual = sheet.accruals[i];
+        if accrual != 0 {
+            for (entry, &left) in premium_row.iter_mut().zip(&left) {
+                *entry += half(accrual * left);
+            }
+        }
+        for row in premium_row.chunks_exact_mut(counts) {
+            roll_premiums(row, &sheet.hazards, discount);
+        }
+    }
+}
+
+/// A tranche's default legs one step back; `paid` is its default cash.
+fn roll_defaults(row: &mut [u64], hazards: &[u64], discount: u64, paid: &[u64]) {
+    let names = hazards.len();
+    let mut here = row[0];
+    for k in 0..names {
+        let next = row[k + 1];
+        let expected = half(hazards[k] * (next + paid[k]) + (B - hazards[k]) * here);
+        row[k] = half(discount * expected);
+        here = next;
+    }
+    row[names] = half(discount * here);
+}
+
+/// A tranche's premium legs one step back.
+fn roll_premiums(row: &mut [u64], hazards: &[u64], discount: u64) {
+    let names = hazards.len();
+    let mut here = row[0];
+    for k in 0..names {
+        let next = row[k + 1];
+        let expected = half(hazards[k] * next + (B - hazards[k]) * here);
+        row[k] = half(discount * expected);
+        here = next;
+    }
+    row[names] = half(discount * here);
+}
+
+/// M(k) of every tranche, and of the index last: one division a count.
+fn fill_losses(sheet: &Sheet, losses: &mut [u64]) {
+    let names = sheet.names as u64;
+    let (tranches, index) = losses.split_at_mut(sheet.tranches * (sheet.names + 1));
+    for (k, loss) in index.iter_mut().enumerate() {
+        *loss = k as u64 * (B - sheet.recovery) / names;
+    }
+    let points = sheet.attachments.windows(2);
+    for (row, points) in tranches.chunks_exact_mut(sheet.names + 1).zip(points) {
+        let width = points[1] - points[0];
+        for (own, &loss) in row.iter_mut().zip(&*index) {
+            *own = loss.saturating_sub(points[0]).min(width);
+        }
+    }
+}
+
+/// What a default pays, by the count before it, and what is outstanding.
+fn fill_tables(sheet: &Sheet, losses: &[u64; ROOM], paid: &mut [u64], left: &mut [u64]) {
+    let counts = sheet.names + 1;
+    for tranche in 0..=sheet.tranches {
+        let first = tranche * counts;
+        for place in first..first + sheet.names {
+            paid[place] = losses[place + 1] - losses[place];
+        }
+        let width = width(sheet, tranche);
+        for place in first..first + counts {
+            left[place] = width - losses[place];
+        }
+    }
+    let index = &mut left[sheet.tranches * counts..];
+    for (k, left) in index.iter_mut().enumerate() {
+        *left = B - k as u64 * B / sheet.names as u64;
+    }
+}
+
+fn width(sheet: &Sheet, tranche: usize) -> u64 {
+    if tranche == sheet.tranches {
+        B - sheet.recovery
+    } else {
+        sheet.attachments[tranche + 1] - sheet.attachments[tranche]
+    }
+}
+
+/// Checks 1 to 12; fills the table of losses on the way.
+fn check_for_walk(
+    walk: Walk,
+    sheet: &Sheet,
+    register: &[u8],
+    default_row: &[u64],
+    premium_row: &[u64],
+    losses: &mut [u64; ROOM],
+) -> Result<(), Refusal> {
+    check_for_rows(sheet, register, default_row, premium_row)?;
+    let no_walk = !walk.open || walk.number != sheet.number || walk.position > sheet.steps;
+    refuse_if(no_walk, Refusal::NoWalk)?;
+    fill_losses(sheet, &mut losses[..row_length(sheet)]);
+    let soiled = is_soiled(sheet, losses, default_row, premium_row, walk.position);
+    refuse_if(soiled, Refusal::Soiled)
+}
+
+fn is_soiled(
+    sheet: &Sheet,
+    losses: &[u64; ROOM],
+    default_row: &[u64],
+    premium_row: &[u64],
+    position: usize,
+) -> bool {
+    let counts = sheet.names + 1;
+    for (tranche, row) in default_row.chunks_exact(counts).enumerate() {
+        let width = width(sheet, tranche);
+        let losses = &losses[tranche * counts..];
+        if row.iter().zip(losses).any(|(&d, &loss)| d > width - loss) {
+            return true;
+        }
+    }
+    let most = sheet.accruals[position..].iter().sum();
+    premium_row.iter().any(|&a| a > most)
+}
+
+/// Checks 1 to 10, for the calls that are lent both rows.
+fn check_for_rows(
+    sheet: &Sheet,
+    register: &[u8],
+    default_row: &[u64],
+    premium_row: &[u64],
+) -> Result<(), Refusal> {
+    check_pool(sheet)?;
+    let length = row_length(sheet);
+    let row_fault = default_row.len() != length || premium_row.len() != length;
+    check_after_pool(sheet, register, row_fault)
+}
+
+fn check_pool(sheet: &Sheet) -> Result<(), Refusal> {
+    let fault = !(1..=MAX_NAMES).contains(&sheet.names)
+        || !(1..=MAX_STEPS).contains(&sheet.steps)
+        || !(1..=MAX_TRANCHES).contains(&sheet.tranches);
+    refuse_if(fault, Refusal::Pool)
+}
+
+/// Checks 2 to 10. The accruals are summed after each was found small.
+fn check_after_pool(sheet: &Sheet, register: &[u8], row_fault: bool) -> Result<(), Refusal> {
+    let length_fault = sheet::length_fault(sheet) || register::length_fault(register) || row_fault;
+    refuse_if(length_fault, Refusal::Length)?;
+    refuse_if(sheet.recovery > B, Refusal::Recovery)?;
+    let rising = sheet.attachments.windows(2).all(|pair| pair[0] < pair[1]);
+    refuse_if(!rising || above(&sheet.attachments, B), Refusal::Cuts)?;
+    refuse_if(above(&sheet.hazards, B), Refusal::Hazard)?;
+    let zero_discount = sheet.discounts.contains(&0);
+    refuse_if(
+        zero_discount || above(&sheet.discounts, B),
+        Refusal::Discount,
+    )?;
+    refuse_if(accrual_fault(&sheet.accruals), Refusal::Accrual)?;
+    refuse_if(above(&sheet.coupons, MAX_COUPON), Refusal::Coupon)?;
+    register::check_live(register, sheet.number)
+}
+
+fn above(list: &[u64], most: u64) -> bool {
+    list.iter().any(|&number| number > most)
+}
+
+fn accrual_fault(accruals: &[u64]) -> bool {
+    above(accruals, B) || accruals.iter().sum::<u64>() > 10 * B || accruals.last() == Some(&0)
+}

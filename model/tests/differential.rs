@@ -1,0 +1,478 @@
+//! The proved engine beside the model: the same calls on the same sheets,
+//! rows, registers and operands, whole and damaged. Number, figures, walk,
+//! rows and register must be equal after every call.
+#![cfg(feature = "engine")]
+
+mod common;
+
+use common::{Random, B};
+use lavroudem_model::cash::default_payment;
+use lavroudem_model::engine;
+use lavroudem_model::refusal::Refusal;
+use lavroudem_model::register::{self, LIVE, UNISSUED};
+use lavroudem_model::sheet::Sheet;
+use lavroudem_model::tree::{default_ceiling, place, premium_ceiling};
+use lavroudem_model::walk::{self, row_length, Walk};
+use std::collections::BTreeMap;
+
+/// Everything the calls are lent or told.
+#[derive(Clone, Debug, PartialEq)]
+struct Desk {
+    sheet: Sheet,
+    register: Vec<u8>,
+    walk: Walk,
+    default_row: Vec<u64>,
+    premium_row: Vec<u64>,
+    forward_row: Vec<u64>,
+    steps: usize,
+    tranche: usize,
+    count: usize,
+}
+
+#[derive(Clone, Copy, Debug, PartialEq, Eq, PartialOrd, Ord)]
+enum Call {
+    Issue,
+    Withdraw,
+    Open,
+    Back,
+    Value,
+    Ratio,
+    Forward,
+}
+
+use Call::{Back, Forward, Issue, Open, Ratio, Value, Withdraw};
+
+/// The calls with the numbers that each can answer (document 01, "Refusals
+/// in order").
+const ANSWERS: [(Call, &[u8]); 7] = [
+    (Issue, &[0, 2, 9, 17]),
+    (Withdraw, &[0, 2, 9, 10]),
+    (Open, &[0, 1, 2, 3, 4, 5, 6, 7, 8, 9, 10]),
+    (Back, &[0, 1, 2, 3, 4, 5, 6, 7, 8, 9, 10, 11, 12, 13]),
+    (Value, &[0, 1, 2, 3, 4, 5, 6, 7, 8, 9, 10, 11, 12, 14]),
+    (
+        Ratio,
+        &[0, 1, 2, 3, 4, 5, 6, 7, 8, 9, 10, 11, 12, 14, 15, 16],
+    ),
+    (Forward, &[0, 1, 2, 3, 4, 5, 6, 7, 8, 9, 10, 13]),
+];
+
+/// Document 01's number, and the figures; after a refusal there are none.
+type Answer = (u8, Vec<i128>);
+
+fn said(answer: Result<Vec<i128>, Refusal>) -> Answer {
+    match answer {
+        Ok(figures) => (0, figures),
+        Err(refusal) => (refusal.number(), vec![]),
+    }
+}
+
+/// The engine hands over a 0 for each figure of a refused call.
+fn handed(number: u8, figures: Vec<i128>) -> Answer {
+    if number == 0 {
+        return (0, figures);
+    }
+    assert!(figures.iter().all(|&figure| figure == 0), "{figures:?}");
+    (number, vec![])
+}
+
+fn ask_model(desk: &mut Desk, call: Call) -> Answer {
+    let (walk, sheet, number) = (desk.walk, &desk.sheet, desk.sheet.number);
+    let (steps, tranche, count) = (desk.steps, desk.tranche, desk.count);
+    let (default_row, premium_row) = (&mut desk.default_row, &mut desk.premium_row);
+    let register = &mut desk.register;
+    let (walk, answer) = match call {
+        Issue => (walk, register::issue(register, number).map(|()| vec![])),
+        Withdraw => (walk, register::withdraw(register, number).map(|()| vec![])),
+        Open => {
+            let (walk, answer) = walk::open(walk, sheet, register, default_row, premium_row);
+            (walk, answer.map(|()| vec![]))
+        }
+        Back => {
+            let (walk, answer) = walk::back(walk, sheet, register, steps, default_row, premium_row);
+            (walk, answer.map(|position| vec![position as i128]))
+        }
+        Value => {
+            let (walk, answer) = walk::value(
+                walk,
+                sheet,
+                register,
+                tranche,
+                count,
+                default_row,
+                premium_row,
+            );
+            let figures =
+                |value: walk::Value| vec![value.default as i128, value.premium as i128, value.net];
+            (walk, answer.map(figures))
+        }
+        Ratio => {
+            let (walk, answer) = walk::hedge_ratio(
+                walk,
+                sheet,
+                register,
+                tranche,
+                count,
+                default_row,
+                premium_row,
+            );
+            (walk, answer.map(|ratio| vec![ratio]))
+        }
+        Forward => {
+            let answer = walk::forward(sheet, register, steps, &mut desk.forward_row);
+            (walk, answer.map(|()| vec![]))
+        }
+    };
+    desk.walk = walk;
+    said(answer)
+}
+
+fn ask_engine(desk: &mut Desk, call: Call) -> Answer {
+    let (walk, sheet, number) = (desk.walk, &desk.sheet, desk.sheet.number);
+    let (steps, tranche, count) = (desk.steps, desk.tranche, desk.count);
+    let (default_row, premium_row) = (&mut desk.default_row, &mut desk.premium_row);
+    let register = &mut desk.register;
+    match call {
+        Issue => handed(engine::issue(register, number), vec![]),
+        Withdraw => handed(engine::withdraw(register, number), vec![]),
+        Open => {
+            let answer = engine::open(walk, sheet, register, default_row, premium_row);
+            desk.walk = answer.walk.into();
+            handed(answer.number, vec![])
+        }
+        Back => {
+            let answer = engine::back(walk, sheet, register, steps, default_row, premium_row);
+            desk.walk = answer.walk.into();
+            handed(answer.number, vec![answer.position as i128])
+        }
+        Value => {
+            let answer = engine::value(
+                walk,
+                sheet,
+                register,
+                tranche,
+                count,
+                default_row,
+                premium_row,
+            );
+            desk.walk = answer.walk.into();
+            let figures = vec![
+                answer.default.into(),
+                answer.premium.into(),
+                answer.net.into(),
+            ];
+            handed(answer.number, figures)
+        }
+        Ratio => {
+            let answer = engine::hedge_ratio(
+                walk,
+                sheet,
+                register,
+                tranche,
+                count,
+                default_row,
+                premium_row,
+            );
+            desk.walk = answer.walk.into();
+            handed(answer.number, vec![answer.ratio.into()])
+        }
+        Forward => {
+            let number = engine::forward(sheet, register, steps, &mut desk.forward_row);
+            handed(number, vec![])
+        }
+    }
+}
+
+/// How often each call gave each number.
+type Tally = BTreeMap<(Call, u8), usize>;
+
+/// Makes a call on both sides and keeps what it leaves.
+fn ask(desk: &mut Desk, call: Call, tally: &mut Tally) -> Answer {
+    let before = desk.clone();
+    let mut other = desk.clone();
+    let answer = ask_model(desk, call);
+    assert_eq!(
+        ask_engine(&mut other, call),
+        answer,
+        "{call:?} on {before:?}"
+    );
+    assert_eq!(&other, desk, "{call:?} on {before:?}");
+    *tally.entry((call, answer.0)).or_default() += 1;
+    answer
+}
+
+// ---- desks
+
+/// A sheet that is accepted, issued, opened and taken some way back.
+fn walked(random: &mut Random, sheet: Sheet, tally: &mut Tally) -> Desk {
+    let length = row_length(&sheet);
+    let mut desk = Desk {
+        register: register::blank(),
+        walk: Walk::fresh(),
+        default_row: vec![u64::MAX; length],
+        premium_row: vec![random.draw(); length],
+        forward_row: vec![random.draw(); sheet.names + 1],
+        steps: random.below(sheet.steps + 1),
+        tranche: random.below(sheet.tranches + 1),
+        count: random.below(sheet.names + 1),
+        sheet,
+    };
+    assert_eq!(ask(&mut desk, Issue, tally).0, 0);
+    assert_eq!(ask(&mut desk, Open, tally).0, 0);
+    assert_eq!(ask(&mut desk, Back, tally).0, 0);
+    desk
+}
+
+fn operands(random: &mut Random, desk: &mut Desk) {
+    let sheet = &desk.sheet;
+    let wild = random.draw() as usize;
+    let pick = |random: &mut Random, most: usize| match random.below(12) {
+        0 => wild,
+        1 => most.saturating_add(1),
+        2 => most,
+        _ => random.below(most.min(4_000) + 1),
+    };
+    desk.steps = pick(random, desk.walk.position);
+    desk.tranche = pick(random, sheet.tranches);
+    desk.count = pick(random, sheet.names);
+}
+
+/// A call that goes on well is asked for more often.
+fn call(random: &mut Random) -> Call {
+    match random.below(20) {
+        0 => Issue,
+        1 => Withdraw,
+        2 | 3 => Open,
+        4..=8 => Back,
+        9..=12 => Value,
+        13..=16 => Ratio,
+        _ => Forward,
+    }
+}
+
+// ---- damage, one limit at a time
+
+fn outside(random: &mut Random, most: usize) -> usize {
+    match random.below(4) {
+        0 => 0,
+        1 => usize::MAX,
+        2 => random.draw() as usize,
+        _ => most + 1,
+    }
+}
+
+fn above(random: &mut Random, most: u64) -> u64 {
+    match random.below(3) {
+        0 => most + 1,
+        1 => u64::MAX,
+        _ => random.draw().saturating_add(most),
+    }
+}
+
+fn resize<T: Clone>(random: &mut Random, list: &mut Vec<T>, fill: T) {
+    match random.below(4) {
+        0 => list.clear(),
+        1 => drop(list.pop()),
+        2 => list.push(fill),
+        _ => list.resize(random.below(300), fill),
+    }
+}
+
+fn set_one(random: &mut Random, list: &mut [u64], figure: u64) {
+    if !list.is_empty() {
+        let at = random.below(list.len());
+        list[at] = figure;
+    }
+}
+
+fn damage_sheet(random: &mut Random, sheet: &mut Sheet) {
+    let high = above(random, B);
+    match random.below(17) {
+        0 => sheet.names = outside(random, 125),
+        1 => sheet.steps = outside(random, 3_650),
+        2 => sheet.tranches = outside(random, 8),
+        3 => resize(random, &mut sheet.attachments, B),
+        4 => resize(random, &mut sheet.hazards, 0),
+        5 => resize(random, &mut sheet.discounts, B),
+        6 => resize(random, &mut sheet.accruals, 1),
+        7 => resize(random, &mut sheet.coupons, 0),
+        8 => sheet.recovery = high,
+        9 => set_one(random, &mut sheet.attachments, high),
+        10 => sheet.attachments.reverse(),
+        11 => set_one(random, &mut sheet.hazards, high),
+        12 => set_one(random, &mut sheet.discounts, high),
+        13 => set_one(random, &mut sheet.discounts, 0),
+        14 => set_one(random, &mut sheet.accruals, high),
+        15 => damage_accruals(random, &mut sheet.accruals),
+        _ => {
+            let coupon = above(random, 10_000_000);
+            set_one(random, &mut sheet.coupons, coupon);
+        }
+    }
+}
+
+/// The last one 0, or a sum that is too high or beyond 64 bits.
+fn damage_accruals(random: &mut Random, accruals: &mut [u64]) {
+    match random.below(3) {
+        0 => {
+            if let Some(last) = accruals.last_mut() {
+                *last = 0;
+            }
+        }
+        1 => accruals.fill(B),
+        _ => accruals.fill(u64::MAX),
+    }
+}
+
+fn damage_state(random: &mut Random, desk: &mut Desk) {
+    let number = usize::from(desk.sheet.number);
+    let byte = [UNISSUED, LIVE, 0x00, 0xA4, random.draw() as u8][random.below(5)];
+    match random.below(12) {
+        0 => resize(random, &mut desk.register, LIVE),
+        1 | 2 => {
+            if let Some(found) = desk.register.get_mut(number) {
+                *found = byte;
+            }
+        }
+        3 => desk.walk.open = !desk.walk.open,
+        4 => desk.walk.number = desk.walk.number.wrapping_add(1 + random.below(255) as u8),
+        5 => desk.walk.position = outside(random, desk.sheet.steps.min(4_000)),
+        6 => desk.walk.position = random.below(desk.sheet.steps.min(4_000) + 1),
+        7 => resize(random, &mut desk.default_row, 0),
+        8 => resize(random, &mut desk.premium_row, 0),
+        9 => resize(random, &mut desk.forward_row, 0),
+        10 => {
+            let entry = above(random, 0);
+            set_one(random, &mut desk.default_row, entry);
+        }
+        _ => {
+            let entry = above(random, 10 * B - 1);
+            set_one(random, &mut desk.premium_row, entry);
+        }
+    }
+}
+
+// ---- rows lent by someone else, for a sheet that is accepted
+
+/// Rows of any content below the ceilings, now and then one unit above.
+fn lend_rows(random: &mut Random, desk: &mut Desk) {
+    let sheet = &desk.sheet;
+    desk.walk.position = random.below(sheet.steps + 1);
+    let highest = premium_ceiling(sheet, desk.walk.position) as u64;
+    for tranche in 0..=sheet.index() {
+        for count in 0..=sheet.names {
+            let here = place(sheet, tranche, count);
+            let most = default_ceiling(sheet, tranche, count) as u64;
+            desk.default_row[here] = random.with_edges(0, most);
+            desk.premium_row[here] = random.with_edges(0, highest);
+        }
+    }
+    if random.one_in(4) {
+        let here = random.below(desk.default_row.len());
+        let (tranche, count) = (here / (sheet.names + 1), here % (sheet.names + 1));
+        desk.default_row[here] = default_ceiling(sheet, tranche, count) as u64 + 1;
+    } else if random.one_in(4) {
+        set_one(random, &mut desk.premium_row, highest + 1);
+    }
+}
+
+/// Moves the index's jump at a count to a few units, so that ratios are
+/// large, off scale or flat.
+fn flatten_index(random: &mut Random, desk: &mut Desk) {
+    let sheet = &desk.sheet;
+    desk.count = random.below(sheet.names);
+    let here = place(sheet, sheet.index(), desk.count);
+    let payment = default_payment(sheet, sheet.index(), desk.count) as u64;
+    let jumped = desk.default_row[here + 1] + payment;
+    let most = default_ceiling(sheet, sheet.index(), desk.count) as u64;
+    desk.default_row[here] = jumped.saturating_sub(random.between(0, 3)).min(most);
+    desk.premium_row[here] = desk.premium_row[here + 1];
+}
+
+// ---- the trials
+
+/// One sheet: calls on its own walk, on lent rows, and on damaged copies.
+fn trial(random: &mut Random, sheet: Sheet, tally: &mut Tally) {
+    let mut desk = walked(random, sheet, tally);
+    for _ in 0..6 {
+        operands(random, &mut desk);
+        let call = call(random);
+        ask(&mut desk, call, tally);
+    }
+    let mut lent = walked(random, desk.sheet.clone(), tally);
+    lend_rows(random, &mut lent);
+    for _ in 0..6 {
+        operands(random, &mut lent);
+        if random.one_in(2) {
+            flatten_index(random, &mut lent);
+        }
+        ask(&mut lent.clone(), Ratio, tally);
+        ask(&mut lent.clone(), Value, tally);
+        ask(&mut lent.clone(), Back, tally);
+    }
+    let whole = walked(random, desk.sheet.clone(), tally);
+    for _ in 0..12 {
+        let mut damaged = whole.clone();
+        operands(random, &mut damaged);
+        for _ in 0..[1, 1, 1, 2, 4][random.below(5)] {
+            if random.one_in(2) {
+                damage_sheet(random, &mut damaged.sheet);
+            } else {
+                damage_state(random, &mut damaged);
+            }
+        }
+        let call = call(random);
+        ask(&mut damaged, call, tally);
+    }
+}
+
+#[test]
+fn calls_on_small_sheets() {
+    let mut random = Random::new(0x5EED_0001);
+    let mut tally = Tally::new();
+    for _ in 0..1_200 {
+        let sheet = random.small_sheet();
+        trial(&mut random, sheet, &mut tally);
+    }
+    let calls: usize = tally.values().sum();
+    assert!(calls > 50_000, "{calls} calls");
+    for (call, numbers) in ANSWERS {
+        for &number in numbers {
+            let times = tally.get(&(call, number)).copied().unwrap_or(0);
+            assert!(times >= 5, "{call:?} gave {number} only {times} times");
+        }
+    }
+}
+
+#[test]
+fn calls_on_larger_sheets() {
+    let mut random = Random::new(0x5EED_0002);
+    let mut tally = Tally::new();
+    for _ in 0..40 {
+        let names = random.with_edges(1, 125) as usize;
+        let steps = random.with_edges(1, 60) as usize;
+        let tranches = random.with_edges(1, 8) as usize;
+        let sheet = random.sheet(names, steps, tranches);
+        trial(&mut random, sheet, &mut tally);
+    }
+}
+
+/// The largest tree, to the root in uneven calls.
+#[test]
+fn the_largest_tree() {
+    let mut random = Random::new(0x5EED_0003);
+    let mut tally = Tally::new();
+    let sheet = random.sheet(125, 3_650, 8);
+    let mut desk = walked(&mut random, sheet, &mut tally);
+    while desk.walk.position > 0 {
+        desk.steps = random.between(1, 900).min(desk.walk.position as u64) as usize;
+        assert_eq!(ask(&mut desk, Back, &mut tally).0, 0);
+    }
+    for tranche in 0..=8 {
+        (desk.tranche, desk.count) = (tranche, 0);
+        assert_eq!(ask(&mut desk, Value, &mut tally).0, 0);
+        ask(&mut desk, Ratio, &mut tally);
+    }
+    desk.steps = 3_650;
+    assert_eq!(ask(&mut desk, Forward, &mut tally).0, 0);
+}

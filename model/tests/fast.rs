@@ -1,0 +1,88 @@
+//! The benchmark's Rust gives what the model gives.
+
+mod common;
+
+use common::{plain_sheet, Random};
+use lavroudem_model::fast;
+use lavroudem_model::register;
+use lavroudem_model::sheet::Sheet;
+use lavroudem_model::walk::{self, row_length, Walk};
+
+/// Opens and walks back in two calls, then compares rows, values and the
+/// distribution.
+fn same_as_the_model(sheet: &Sheet, first: usize) {
+    let mut register = register::blank();
+    register::issue(&mut register, sheet.number).unwrap();
+    let length = row_length(sheet);
+    let (mut d, mut a) = (vec![1; length], vec![2; length]);
+    let (mut fast_d, mut fast_a) = (d.clone(), a.clone());
+    let (mut walk, _) = walk::open(Walk::fresh(), sheet, &register, &mut d, &mut a);
+    let opened = fast::open(Walk::fresh(), sheet, &register, &mut fast_d, &mut fast_a);
+    assert_eq!(opened, (walk, Ok(())));
+    for steps in [first, sheet.steps - first, 1] {
+        let after = walk::back(walk, sheet, &register, steps, &mut d, &mut a);
+        let fast_after = fast::back(walk, sheet, &register, steps, &mut fast_d, &mut fast_a);
+        assert_eq!(after, fast_after);
+        assert_eq!((&d, &a), (&fast_d, &fast_a));
+        walk = after.0;
+    }
+    for tranche in 0..=sheet.tranches + 1 {
+        let model = walk::value(walk, sheet, &register, tranche, 0, &d, &a);
+        let fast = fast::value(walk, sheet, &register, tranche, 0, &d, &a);
+        assert_eq!(model, fast);
+    }
+    let (mut row, mut fast_row) = (vec![5; sheet.names + 1], vec![6; sheet.names + 1]);
+    walk::forward(sheet, &register, first, &mut row).unwrap();
+    fast::forward(sheet, &register, first, &mut fast_row).unwrap();
+    assert_eq!(row, fast_row);
+    soil(sheet, walk, &register, d, a);
+}
+
+/// One entry above its ceiling.
+fn soil(sheet: &Sheet, walk: Walk, register: &[u8], mut d: Vec<u64>, mut a: Vec<u64>) {
+    d[sheet.names] = 1_000_000_001;
+    let model = walk::back(walk, sheet, register, 0, &mut d, &mut a);
+    assert_eq!(fast::back(walk, sheet, register, 0, &mut d, &mut a), model);
+    assert!(model.1.is_err());
+}
+
+#[test]
+fn random_sheets() {
+    let mut random = Random::new(0xFA57);
+    for _ in 0..300 {
+        let sheet = random.small_sheet();
+        let first = random.below(sheet.steps + 1);
+        same_as_the_model(&sheet, first);
+    }
+    for _ in 0..5 {
+        let sheet = random.sheet(125, 40, 8);
+        same_as_the_model(&sheet, 17);
+    }
+}
+
+#[test]
+fn damaged_sheets_are_refused_alike() {
+    let register = vec![register::LIVE; 256];
+    let changes: [fn(&mut Sheet); 12] = [
+        |s| s.names = 126,
+        |s| s.steps = 0,
+        |s| s.tranches = 9,
+        |s| s.hazards.truncate(2),
+        |s| s.recovery = 1_000_000_001,
+        |s| s.attachments[1] = s.attachments[0],
+        |s| s.hazards[0] = 1_000_000_001,
+        |s| s.discounts[1] = 0,
+        |s| s.discounts[1] = 1_000_000_001,
+        |s| s.accruals[2] = 0,
+        |s| s.accruals[0] = u64::MAX,
+        |s| s.coupons[2] = 10_000_001,
+    ];
+    for change in changes {
+        let mut sheet = plain_sheet(3, 3, 2);
+        change(&mut sheet);
+        let mut row = vec![0; 4];
+        let model = walk::forward(&sheet, &register, 1, &mut row);
+        assert!(model.is_err());
+        assert_eq!(fast::forward(&sheet, &register, 1, &mut row), model);
+    }
+}
