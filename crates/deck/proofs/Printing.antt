@@ -33,6 +33,11 @@ pub room-sized : (bytes : ℕ) → bytes ≤ 65536 → room bytes ≡ 32 * bytes
 unfolding room
 room-sized bytes h = omega arith
 
+-- the room of any deck
+pub room-most : (bytes : ℕ) → room bytes ≤ 2097248
+unfolding room
+room-most bytes = omega arith
+
 pub no-room : (deck out : List ℕ) → length out < room (length deck) → printout NoRoom out ≡ printing deck out
 unfolding printing
 no-room deck out h = sym (rw (lt-ltb (length out) (room (length deck)) h, printing))

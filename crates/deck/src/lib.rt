@@ -33,6 +33,7 @@ pub fn run(deck: &[u8], out: &mut [u8]) -> Ran
     if MOST < deck.len() {
         return Ran::Printed(render::put_deck(out, 0, 20, MOST));
     }
+    // the most entries of each list, and rows as the largest sheet has them: 9 of 126 numbers
     let mut attachments = [0u64; 9];
     let mut hazards = [0u64; 125];
     let mut discounts = [0u64; 3650];

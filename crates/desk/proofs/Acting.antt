@@ -2,6 +2,8 @@
 use Prim.Native.Nat.{ℕ}
 use mathlib.Core.Path.{_≡_, refl, sym, ap, _∙_}
 use mathlib.Core.List.{List}
+use native.Mathlib.Omega.{arith}
+use lib.ListN.{length}
 use Rattle.commands.specs.declared.Order.{Order}
 use Rattle.commands.specs.declared.Order.the-variants.{Issue, Withdraw, Open, Back, Value, Delta, Forward}
 use Rattle.register.specs.declared.answers.Answer as Register
@@ -13,7 +15,7 @@ use Rattle.walk.specs.Calls.{Outcome, replied, rowsOf}
 use Rattle.walk.specs.Does.{Spread}
 use Rattle.desk.specs.Desk.{Entered, Desk, broughtBy}
 use Rattle.desk.specs.Orders.{After, walked, openIn, backIn, valueIn, ratioIn, spreadIn, acted}
-use Rattle.desk.specs.Held.{deskOf, spreadBy}
+use Rattle.desk.specs.Held.{Roomy, deskOf, spreadBy}
 
 abbrev afterSaid : Said → Desk → After
 afterSaid said s = record { said = said; next = s }
@@ -68,3 +70,15 @@ module _ (o : Order) (e : Entered) (w : Walk) (register ds ps row : List ℕ) wh
       spreadBy said row′ ≡ spreadIn (broughtBy e) register row i k → afterSaid said (deskOf e register w ds ps row′) ≡ acted o before
   unfolding acted
   forward-acts q p = ap (λ (t : Spread). record { said = t .said; next = deskOf e register w ds ps (t .row) }) p ∙ as-is q
+
+-- ---- the register and the rooms keep their lengths
+
+module _ {register ds ps row : List ℕ} (p : Roomy register ds ps row) where
+  pub roomy-register : {register′ : List ℕ} → length register′ ≡ length register → Roomy register′ ds ps row
+  roomy-register e = omega (arith, e, p)
+
+  pub roomy-rooms : {ds′ ps′ : List ℕ} → length ds′ ≡ length ds → length ps′ ≡ length ps → Roomy register ds′ ps′ row
+  roomy-rooms e f = omega (arith, e, f, p)
+
+  pub roomy-row : {row′ : List ℕ} → length row′ ≡ length row → Roomy register ds ps row′
+  roomy-row e = omega (arith, e, p)

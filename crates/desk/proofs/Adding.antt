@@ -55,39 +55,81 @@ module _ (e : Entry) (g : Given) (attachments hazards discounts accruals coupons
   before = enteredIn g attachments hazards discounts accruals coupons
 
   pub pooled : (n m r recovery number : ℕ) → e ≡ Pool n m r recovery number →
-      let t : Given = record { pooled = true; pool = record { names = n; steps = m; tranches = r; recovery = recovery; number = number }; attachments = g .attachments; hazards = g .hazards; steps = g .steps; coupons = g .coupons } in
+      let t : Given = record {
+        pooled = true;
+        pool = record { names = n; steps = m; tranches = r; recovery = recovery; number = number };
+        attachments = g .attachments;
+        hazards = g .hazards;
+        steps = g .steps;
+        coupons = g .coupons;
+      } in
       Held t attachments hazards discounts accruals coupons × (enteredIn t attachments hazards discounts accruals coupons ≡ added e before)
   unfolding added
   pooled n m r recovery number q = (omega (arith, h), sym (ap (λ (k : Entry). added k before) q))
 
   pub attachment-more : (x : ℕ) → e ≡ Attachment x →
-      let t : Given = record { pooled = g .pooled; pool = g .pool; attachments = g .attachments + 1; hazards = g .hazards; steps = g .steps; coupons = g .coupons } in
-      Held t (set attachments (g .attachments) x) hazards discounts accruals coupons × (enteredIn t (set attachments (g .attachments) x) hazards discounts accruals coupons ≡ added e before)
+      let t : Given = record {
+        pooled = g .pooled;
+        pool = g .pool;
+        attachments = g .attachments + 1;
+        hazards = g .hazards;
+        steps = g .steps;
+        coupons = g .coupons;
+      } in
+      Held t (set attachments (g .attachments) x) hazards discounts accruals coupons ×
+      (enteredIn t (set attachments (g .attachments) x) hazards discounts accruals coupons ≡ added e before)
   unfolding added
   attachment-more x q =
       let i-attachments : g .attachments < length attachments = omega (arith, attachment-room x q, h .attachments-long) in
       (omega (arith, attachment-room x q, h, length-set attachments (g .attachments) x), rw (q, grown (g .attachments) attachments x i-attachments))
 
   pub hazard-more : (x : ℕ) → e ≡ Hazard x →
-      let t : Given = record { pooled = g .pooled; pool = g .pool; attachments = g .attachments; hazards = g .hazards + 1; steps = g .steps; coupons = g .coupons } in
-      Held t attachments (set hazards (g .hazards) x) discounts accruals coupons × (enteredIn t attachments (set hazards (g .hazards) x) discounts accruals coupons ≡ added e before)
+      let t : Given = record {
+        pooled = g .pooled;
+        pool = g .pool;
+        attachments = g .attachments;
+        hazards = g .hazards + 1;
+        steps = g .steps;
+        coupons = g .coupons;
+      } in
+      Held t attachments (set hazards (g .hazards) x) discounts accruals coupons ×
+      (enteredIn t attachments (set hazards (g .hazards) x) discounts accruals coupons ≡ added e before)
   unfolding added
   hazard-more x q =
       let i-hazards : g .hazards < length hazards = omega (arith, hazard-room x q, h .hazards-long) in
       (omega (arith, hazard-room x q, h, length-set hazards (g .hazards) x), rw (q, grown (g .hazards) hazards x i-hazards))
 
   pub step-more : (x y : ℕ) → e ≡ Step x y →
-      let t : Given = record { pooled = g .pooled; pool = g .pool; attachments = g .attachments; hazards = g .hazards; steps = g .steps + 1; coupons = g .coupons } in
-      Held t attachments hazards (set discounts (g .steps) x) (set accruals (g .steps) y) coupons × (enteredIn t attachments hazards (set discounts (g .steps) x) (set accruals (g .steps) y) coupons ≡ added e before)
+      let t : Given = record {
+        pooled = g .pooled;
+        pool = g .pool;
+        attachments = g .attachments;
+        hazards = g .hazards;
+        steps = g .steps + 1;
+        coupons = g .coupons;
+      } in
+      Held t attachments hazards (set discounts (g .steps) x) (set accruals (g .steps) y) coupons ×
+      (enteredIn t attachments hazards (set discounts (g .steps) x) (set accruals (g .steps) y) coupons ≡ added e before)
   unfolding added
   step-more x y q =
       let i-discounts : g .steps < length discounts = omega (arith, step-room x y q, h .discounts-long) in
-      let i-accruals : g .steps < length accruals = omega (arith, step-room x y q, h .accruals-long) in
-      (omega (arith, step-room x y q, h, length-set discounts (g .steps) x, length-set accruals (g .steps) y), rw (q, grown (g .steps) discounts x i-discounts, grown (g .steps) accruals y i-accruals))
+      let i-accruals : g .steps < length accruals = omega (arith, step-room x y q, h .accruals-long) in (
+        omega (arith, step-room x y q, h, length-set discounts (g .steps) x, length-set accruals (g .steps) y),
+        rw
+            (q, grown (g .steps) discounts x i-discounts, grown (g .steps) accruals y i-accruals),
+      )
 
   pub coupon-more : (x : ℕ) → e ≡ Coupon x →
-      let t : Given = record { pooled = g .pooled; pool = g .pool; attachments = g .attachments; hazards = g .hazards; steps = g .steps; coupons = g .coupons + 1 } in
-      Held t attachments hazards discounts accruals (set coupons (g .coupons) x) × (enteredIn t attachments hazards discounts accruals (set coupons (g .coupons) x) ≡ added e before)
+      let t : Given = record {
+        pooled = g .pooled;
+        pool = g .pool;
+        attachments = g .attachments;
+        hazards = g .hazards;
+        steps = g .steps;
+        coupons = g .coupons + 1;
+      } in
+      Held t attachments hazards discounts accruals (set coupons (g .coupons) x) ×
+      (enteredIn t attachments hazards discounts accruals (set coupons (g .coupons) x) ≡ added e before)
   unfolding added
   coupon-more x q =
       let i-coupons : g .coupons < length coupons = omega (arith, coupon-room x q, h .coupons-long) in

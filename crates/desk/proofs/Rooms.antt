@@ -84,7 +84,8 @@ module _ (x : Brought) (register row row′ : List ℕ) (a : Answer) (i count k 
       (λ j. filledBy a (row′ ++ drop-min (x .sheet .names + 1) 126 k row long k-is j))
       ∙ ap (inRow x row) (fills ∙ ap (λ (l : List ℕ). forwardCall x register l i) (take-min (x .sheet .names + 1) 126 k row long k-is))
 
-  pub spread-told : {said : Said} → said ≡ countSaid a (row′ ++ drop k row) (x .sheet .names) count → spreadBy said (row′ ++ drop k row) ≡ spreadIn x register row i count
+  pub spread-told : {said : Said} → said ≡ countSaid a (row′ ++ drop k row) (x .sheet .names) count → spreadBy said (row′ ++ drop k row)
+      ≡ spreadIn x register row i count
   unfolding spreadIn
   spread-told e =
       ap (λ (s : Said). spreadBy s (row′ ++ drop k row)) e
@@ -109,7 +110,8 @@ said-count a row n k e h = sym (ap (λ (b : Answer). countSaid b row n k) e ∙ 
 pub said-other : (a : Answer) (row : List ℕ) (n k : ℕ) → OneOf (0 ∷ 2 ∷ 3 ∷ 4 ∷ []) (tagOf the-type a) → saidOf a ≡ countSaid a row n k
 unfolding countSaid
 said-other (Refused f) row n k t = refl
-said-other Done row n k t = absurd (⊎-elim (λ (z : _≡_ {A = ℕ} 1 0). omega arith) (⊎-elim (λ (z : _≡_ {A = ℕ} 1 2). omega arith) (⊎-elim (λ (z : _≡_ {A = ℕ} 1 3). omega arith) (λ (z : _≡_ {A = ℕ} 1 4). omega arith))) t)
+said-other Done row n k t = absurd (⊎-elim (λ (z : _≡_ {A = ℕ} 1 0). omega arith)
+    (⊎-elim (λ (z : _≡_ {A = ℕ} 1 2). omega arith) (⊎-elim (λ (z : _≡_ {A = ℕ} 1 3). omega arith) (λ (z : _≡_ {A = ℕ} 1 4). omega arith))) t)
 said-other (Position i) row n k t = refl
 said-other (Worth d p w) row n k t = refl
 said-other (Ratio z) row n k t = refl

@@ -8,6 +8,7 @@ use crate::Answer;
 use walk::Refusal;
 use walk::Reply;
 
+// A refusal's number.
 pub fn number(refusal: Refusal) -> u8
     ensures { λ r. ⌜ r ≡ refusalNumber refusal ⌝ }
 {

@@ -12,7 +12,7 @@ use walk::Pool;
 use walk::Reply;
 use walk::Walk;
 
-// How many numbers of a room are lent: those of the sheet's rows, or all.
+// How many numbers of a room are lent: those of the sheet's rows. All of it where they are more, whose pool is refused.
 fn row_size(pool: Pool) -> usize
     ensures { λ r. ⌜ r ≡ min ((pool .tranches + 1) * (pool .names + 1)) 1134 ⌝ }
 {
@@ -39,6 +39,7 @@ fn forward_size(pool: Pool) -> usize
     pool.names + 1
 }
 
+// Open on the rooms.
 pub fn open(
     walk: Walk,
     pool: Pool,
@@ -68,6 +69,7 @@ pub fn open(
     )
 }
 
+// Back on the rooms.
 pub fn back(
     walk: Walk,
     pool: Pool,
@@ -99,6 +101,7 @@ pub fn back(
     )
 }
 
+// Value on the rooms.
 pub fn value(
     walk: Walk,
     pool: Pool,
@@ -132,6 +135,7 @@ pub fn value(
     )
 }
 
+// Hedge ratio on the rooms.
 pub fn hedge_ratio(
     walk: Walk,
     pool: Pool,

@@ -27,7 +27,7 @@ pub fn nothing() -> Given
     }
 }
 
-// Whether there is room for an entry.
+// Whether there is room for an entry: for one pool, 9 cuts and coupons, 125 hazards and 3,650 steps (20).
 pub fn has_room(entry: Entry, given: Given) -> bool
     ensures { λ r. ⌜ r ≡ roomBeside entry (given .pooled) (given .attachments) (given .hazards) (given .steps) (given .coupons) ⌝ }
 {

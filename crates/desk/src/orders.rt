@@ -1,4 +1,4 @@
-// Commands 06 to 0C: each order is a call, on what the desk holds.
+// Commands 06 to 0C.
 ghost use mathlib.Core.Path.{_≡_};
 ghost use Rattle.desk.specs.Held.{Roomy, enteredBy, deskOf, afterOf};
 ghost use Rattle.desk.specs.Orders.{acted};
@@ -9,7 +9,7 @@ use crate::calls;
 use commands::Order;
 use walk::Walk;
 
-// The lists are the sheet's, with just the entries given.
+// Each order is one call, on what the desk holds. The lists have just the entries given.
 pub fn act<'a>(
     order: Order,
     given: Given,

@@ -12,7 +12,7 @@ fn input_room() -> [u8; 65537]
     [0; 65537]
 }
 
-// Room for the listing of any deck.
+// Room for the listing of any deck, so that run never answers that there is none.
 fn output_room() -> [u8; 2097248]
     ensures { λ r. ⌜ 2097248 ≡ length r ⌝ }
 {

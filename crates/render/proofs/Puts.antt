@@ -50,7 +50,8 @@ put-byte n h w = put 4 w (byte-long n h)
 pub put-zero : {before after : List ℕ} {at end : ℕ} → Wrote before at (field (pos 0)) after end → Put before at (field (pos 0)) after end 2
 put-zero w = put 2 w zero-long
 
-pub put-wide : {before after : List ℕ} {at end : ℕ} (n : ℕ) → n < 2 ^ 64 → Wrote before at (field (pos n)) after end → Put before at (field (pos n)) after end 21
+pub put-wide : {before after : List ℕ} {at end : ℕ} (n : ℕ) → n < 2 ^ 64 → Wrote before at (field (pos n)) after end → Put before at
+    (field (pos n)) after end 21
 put-wide n h w = put 21 w (length-field-pos n h)
 
 -- a signed one, which the machine reads from its bits

@@ -15,7 +15,12 @@ returns c =
 
 put-deck-requires : tie.Need-put-deck-requires
 put-deck-requires c κs =
-    let s = c .before .before .before .before .before .before in omega (arith, c .before .before .if1 .left, c .before .before .before .room .ensures, room-least (length (s .args .deck .now)))
+    let s = c .before .before .before .before .before .before in omega (
+      arith,
+      c .before .before .if1 .left,
+      c .before .before .before .room .ensures,
+      room-least (length (s .args .deck .now)),
+    )
 
 same-length : tie.Need-same-length
 same-length c = search needs
@@ -23,8 +28,20 @@ same-length c = search needs
 returns-2 : tie.Need-returns-2
 returns-2 c =
     let s = c .before .before .before .before .before .before .before .before .before in
-    printed (s .args .deck .now) (s .args .out .now) _ _ _ (omega (arith, c .before .before .before .before .before .if1 .left, c .before .before .before .before .before .before .room .ensures)) (oversized (s .args .deck .now) (c .before .before .before .before .if2 .taken)) (c .before .before .put-deck .ensures .0)
-    (omega (arith, c .before .before .before .before .before .if1 .left, c .before .before .before .before .before .before .room .ensures, room-least (length (s .args .deck .now)), c .before .before .put-deck .ensures .1))
+    printed (s .args .deck .now) (s .args .out .now) _ _ _ (omega (
+      arith,
+      c .before .before .before .before .before .if1 .left,
+      c .before .before .before .before .before .before .room .ensures,
+    )) (oversized (s .args .deck .now)
+    (c .before .before .before .before .if2 .taken)) (c .before .before .put-deck .ensures .0)
+    (omega (
+      arith,
+      c .before .before .before .before .before .if1 .left,
+      c .before .before .before .before .before .before .room .ensures,
+      room-least
+          (length (s .args .deck .now)),
+      c .before .before .put-deck .ensures .1,
+    ))
 
 slice-aggregate-all : tie.Need-slice-aggregate-all
 slice-aggregate-all c = search needs
@@ -55,7 +72,19 @@ slice-aggregate-all-9 c = search needs
 
 all-requires : tie.Need-all-requires
 all-requires c κs =
-    let s = c .before .before .before .before .before .before .before .before .before .before .before .before .before .before .before in (search needs, (search needs, omega (arith, c .before .before .before .before .before .before .before .before .before .before .before .if1 .left, c .before .before .before .before .before .before .before .before .before .before .before .before .room .ensures, room-sized (length (s .args .deck .now)) (c .before .before .before .before .before .before .before .before .before .before .if2 .left))))
+    let s = c .before .before .before .before .before .before .before .before .before .before .before .before .before .before .before in (
+      search needs,
+      (
+        search needs,
+        omega (
+          arith,
+          c .before .before .before .before .before .before .before .before .before .before .before .if1 .left,
+          c .before .before .before .before .before .before .before .before .before .before .before .before .room .ensures,
+          room-sized
+              (length (s .args .deck .now)) (c .before .before .before .before .before .before .before .before .before .before .if2 .left),
+        ),
+      ),
+    )
 
 same-length-2 : tie.Need-same-length-2
 same-length-2 c = search needs
@@ -63,7 +92,11 @@ same-length-2 c = search needs
 returns-3 : tie.Need-returns-3
 returns-3 c =
     let s = c .before .before .before .before .before .before .before .before .before .before .before .before .before .before .before .before .before .before .before .before .before .before .before .before .before .before .before in
-    printed (s .args .deck .now) (s .args .out .now) _ _ _ (omega (arith, c .before .before .before .before .before .before .before .before .before .before .before .before .before .before .before .before .before .before .before .before .before .before .before .if1 .left, c .before .before .before .before .before .before .before .before .before .before .before .before .before .before .before .before .before .before .before .before .before .before .before .before .room .ensures)) (sized (s .args .deck .now) (c .before .before .before .before .before .before .before .before .before .before .before .before .before .before .before .before .before .before .before .before .before .before .if2 .left)) (c .before .before .before .before .before .before .before .before .before .before .before .all .ensures .0) (c .before .before .before .before .before .before .before .before .before .before .before .all .ensures .1)
+    printed (s .args .deck .now) (s .args .out .now) _ _ _ (omega (
+      arith,
+      c .before .before .before .before .before .before .before .before .before .before .before .before .before .before .before .before .before .before .before .before .before .before .before .if1 .left,
+      c .before .before .before .before .before .before .before .before .before .before .before .before .before .before .before .before .before .before .before .before .before .before .before .before .room .ensures,
+    )) (sized (s .args .deck .now) (c .before .before .before .before .before .before .before .before .before .before .before .before .before .before .before .before .before .before .before .before .before .before .if2 .left)) (c .before .before .before .before .before .before .before .before .before .before .before .all .ensures .0) (c .before .before .before .before .before .before .before .before .before .before .before .all .ensures .1)
 
 pub run-spec : {M : Type 1} → statement M
 run-spec =

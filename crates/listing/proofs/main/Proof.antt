@@ -12,7 +12,8 @@ use Rattle.listing.proofs.main.Statement.{statement}
 use Rattle.listing.proofs.main.Tie as tie
 
 within : (c : tie.After-known-told) → c .before .ran .given .0 .0 ≤ length (c .before .before .before .before .run .last .1 .0)
-within c = printed-within _ _ _ _ (ap (λ (a : Ran). printout a (c .before .before .before .before .run .last .1 .0)) (sym (c .before .ran .given .1)) ∙ c .before .before .before .before .run .ensures)
+within c = printed-within _ _ _ _ (ap (λ (a : Ran). printout a (c .before .before .before .before .run .last .1 .0)) (sym (c .before .ran .given .1))
+    ∙ c .before .before .before .before .run .ensures)
 
 input-room-requires : tie.Need-input-room-requires
 input-room-requires c κs = search needs
@@ -43,7 +44,12 @@ enum-known-ran c = search needs
 
 array-share-prefix-out : tie.Need-array-share-prefix-out
 array-share-prefix-out c =
-    omega (arith, within c, c .before .before .before .before .run .kept .1 .0, c .before .before .before .before .before .before .before .before .before .before .output-room .ensures)
+    omega (
+      arith,
+      within c,
+      c .before .before .before .before .run .kept .1 .0,
+      c .before .before .before .before .before .before .before .before .before .before .output-room .ensures,
+    )
 
 slice-aggregate-write-all : tie.Need-slice-aggregate-write-all
 slice-aggregate-write-all c =

@@ -36,7 +36,8 @@ returns : tie.Need-returns
 unfolding told fields
 returns c =
     let e = c .before .before .before .before .before .answer .given .1 in
-    let all = last (put-byte (c .before .before .before .before .before .answer .given .0 .0) (c .before .before .before .before .known-told .given .0 .1) (c .before .before .put-count .ensures)) in
+    let all = last (put-byte (c .before .before .before .before .before .answer .given .0 .0)
+    (c .before .before .before .before .known-told .given .0 .1) (c .before .before .put-count .ensures)) in
     (wrote-text (sym (ap text e)) (all .wrote), omega (arith, all .short, ap most e))
 
 enum-told : tie.Need-enum-told
@@ -65,7 +66,14 @@ put-count-requires-3 c κs =
 
 put-count-requires-4 : tie.Need-put-count-requires-4
 put-count-requires-4 c κs =
-    let p = put-zero (c .before .before .before .put-count3 .ensures) in omega (arith, p .short, p .long, length-field-pos (c .before .before .before .before .before .before .answer2 .given .0 .0) (c .before .before .before .before .before .known-told2 .given .0 .1), c .before .before .before .before .before .before .before .before .before .pre)
+    let p = put-zero (c .before .before .before .put-count3 .ensures) in omega (
+      arith,
+      p .short,
+      p .long,
+      length-field-pos (c .before .before .before .before .before .before .answer2 .given .0 .0)
+          (c .before .before .before .before .before .known-told2 .given .0 .1),
+      c .before .before .before .before .before .before .before .before .before .pre,
+    )
 
 same-length-3 : tie.Need-same-length-3
 same-length-3 c = search needs
@@ -74,7 +82,9 @@ returns-3 : tie.Need-returns-3
 unfolding told fields
 returns-3 c =
     let e = c .before .before .before .before .before .before .before .before .before .answer2 .given .1 in
-    let all = both (put-zero (c .before .before .before .before .before .before .put-count3 .ensures)) (last (put-wide (c .before .before .before .before .before .before .before .before .before .answer2 .given .0 .0) (c .before .before .before .before .before .before .before .before .known-told2 .given .0 .1) (c .before .before .put-count4 .ensures))) in
+    let all = both (put-zero (c .before .before .before .before .before .before .put-count3 .ensures))
+    (last (put-wide (c .before .before .before .before .before .before .before .before .before .answer2 .given .0 .0)
+    (c .before .before .before .before .before .before .before .before .known-told2 .given .0 .1) (c .before .before .put-count4 .ensures))) in
     (wrote-text (sym (ap text e)) (all .wrote), omega (arith, all .short, ap most e))
 
 enum-known-answer-3 : tie.Need-enum-known-answer-3
@@ -86,21 +96,43 @@ put-count-requires-5 c κs =
 
 put-count-requires-6 : tie.Need-put-count-requires-6
 put-count-requires-6 c κs =
-    let p = put-zero (c .before .before .before .put-count5 .ensures) in omega (arith, p .short, p .long, length-field-pos (c .before .before .before .before .before .before .answer3 .given .0 .0) (c .before .before .before .before .before .known-told3 .given .0 .1), c .before .before .before .before .before .before .before .before .before .pre)
+    let p = put-zero (c .before .before .before .put-count5 .ensures) in omega (
+      arith,
+      p .short,
+      p .long,
+      length-field-pos (c .before .before .before .before .before .before .answer3 .given .0 .0)
+          (c .before .before .before .before .before .known-told3 .given .0 .1),
+      c .before .before .before .before .before .before .before .before .before .pre,
+    )
 
 put-count-requires-7 : tie.Need-put-count-requires-7
 put-count-requires-7 c κs =
     let v = c .before .before .before .before .before .before .before .before .before .before .answer3 .given .0 in
     let k = c .before .before .before .before .before .before .before .before .before .known-told3 .given in
-    let p = both (put-zero (c .before .before .before .before .before .before .before .put-count5 .ensures)) (put-wide (v .0) (k .0 .1) (c .before .before .before .put-count6 .ensures)) in
-    omega (arith, p .short, p .long, length-field-pos (v .1 .0) (k .1 .0 .1), c .before .before .before .before .before .before .before .before .before .before .before .before .before .pre)
+    let p = both (put-zero (c .before .before .before .before .before .before .before .put-count5 .ensures))
+    (put-wide (v .0) (k .0 .1) (c .before .before .before .put-count6 .ensures)) in
+    omega (
+      arith,
+      p .short,
+      p .long,
+      length-field-pos (v .1 .0) (k .1 .0 .1),
+      c .before .before .before .before .before .before .before .before .before .before .before .before .before .pre,
+    )
 
 put-field-requires : tie.Need-put-field-requires
 put-field-requires c κs =
     let v = c .before .before .before .before .before .before .before .before .before .before .before .before .before .before .answer3 .given .0 in
     let k = c .before .before .before .before .before .before .before .before .before .before .before .before .before .known-told3 .given in
-    let p = both (put-zero (c .before .before .before .before .before .before .before .before .before .before .before .put-count5 .ensures)) (both (put-wide (v .0) (k .0 .1) (c .before .before .before .before .before .before .before .put-count6 .ensures)) (put-wide (v .1 .0) (k .1 .0 .1) (c .before .before .before .put-count7 .ensures))) in
-    omega (arith, p .short, p .long, signed-long (v .1 .1 .0) (record { sfits = k .1 .1 .0 .1 }), c .before .before .before .before .before .before .before .before .before .before .before .before .before .before .before .before .before .pre)
+    let p = both (put-zero (c .before .before .before .before .before .before .before .before .before .before .before .put-count5 .ensures))
+    (both (put-wide (v .0) (k .0 .1) (c .before .before .before .before .before .before .before .put-count6 .ensures))
+    (put-wide (v .1 .0) (k .1 .0 .1) (c .before .before .before .put-count7 .ensures))) in
+    omega (
+      arith,
+      p .short,
+      p .long,
+      signed-long (v .1 .1 .0) (record { sfits = k .1 .1 .0 .1 }),
+      c .before .before .before .before .before .before .before .before .before .before .before .before .before .before .before .before .before .pre,
+    )
 
 same-length-4 : tie.Need-same-length-4
 same-length-4 c = search needs
@@ -111,7 +143,11 @@ returns-4 c =
     let e = c .before .before .before .before .before .before .before .before .before .before .before .before .before .before .before .before .before .answer3 .given .1 in
     let v = c .before .before .before .before .before .before .before .before .before .before .before .before .before .before .before .before .before .answer3 .given .0 in
     let k = c .before .before .before .before .before .before .before .before .before .before .before .before .before .before .before .before .known-told3 .given in
-    let all = both (put-zero (c .before .before .before .before .before .before .before .before .before .before .before .before .before .before .put-count5 .ensures)) (both (put-wide (v .0) (k .0 .1) (c .before .before .before .before .before .before .before .before .before .before .put-count6 .ensures)) (both (put-wide (v .1 .0) (k .1 .0 .1) (c .before .before .before .before .before .before .put-count7 .ensures)) (last (put-sign (v .1 .1 .0) (record { sfits = k .1 .1 .0 .1 }) (c .before .before .put-field .ensures))))) in
+    let all = both (put-zero
+    (c .before .before .before .before .before .before .before .before .before .before .before .before .before .before .put-count5 .ensures))
+    (both (put-wide (v .0) (k .0 .1) (c .before .before .before .before .before .before .before .before .before .before .put-count6 .ensures))
+    (both (put-wide (v .1 .0) (k .1 .0 .1) (c .before .before .before .before .before .before .put-count7 .ensures))
+    (last (put-sign (v .1 .1 .0) (record { sfits = k .1 .1 .0 .1 }) (c .before .before .put-field .ensures))))) in
     (wrote-text (sym (ap text e)) (all .wrote), omega (arith, all .short, ap most e))
 
 enum-known-answer-4 : tie.Need-enum-known-answer-4
@@ -123,7 +159,14 @@ put-count-requires-8 c κs =
 
 put-field-requires-2 : tie.Need-put-field-requires-2
 put-field-requires-2 c κs =
-    let p = put-zero (c .before .before .before .put-count8 .ensures) in omega (arith, p .short, p .long, signed-long (c .before .before .before .before .before .before .answer4 .given .0 .0) (record { sfits = c .before .before .before .before .before .known-told4 .given .0 .1 }), c .before .before .before .before .before .before .before .before .before .pre)
+    let p = put-zero (c .before .before .before .put-count8 .ensures) in omega (
+      arith,
+      p .short,
+      p .long,
+      signed-long (c .before .before .before .before .before .before .answer4 .given .0 .0)
+          (record { sfits = c .before .before .before .before .before .known-told4 .given .0 .1 }),
+      c .before .before .before .before .before .before .before .before .before .pre,
+    )
 
 same-length-5 : tie.Need-same-length-5
 same-length-5 c = search needs
@@ -132,7 +175,10 @@ returns-5 : tie.Need-returns-5
 unfolding told fields
 returns-5 c =
     let e = c .before .before .before .before .before .before .before .before .before .answer4 .given .1 in
-    let all = both (put-zero (c .before .before .before .before .before .before .put-count8 .ensures)) (last (put-sign (c .before .before .before .before .before .before .before .before .before .answer4 .given .0 .0) (record { sfits = c .before .before .before .before .before .before .before .before .known-told4 .given .0 .1 }) (c .before .before .put-field2 .ensures))) in
+    let all = both (put-zero (c .before .before .before .before .before .before .put-count8 .ensures))
+    (last (put-sign (c .before .before .before .before .before .before .before .before .before .answer4 .given .0 .0)
+    (record { sfits = c .before .before .before .before .before .before .before .before .known-told4 .given .0 .1 })
+    (c .before .before .put-field2 .ensures))) in
     (wrote-text (sym (ap text e)) (all .wrote), omega (arith, all .short, ap most e))
 
 enum-known-answer-5 : tie.Need-enum-known-answer-5
@@ -144,7 +190,14 @@ put-count-requires-9 c κs =
 
 put-count-requires-10 : tie.Need-put-count-requires-10
 put-count-requires-10 c κs =
-    let p = put-zero (c .before .before .before .put-count9 .ensures) in omega (arith, p .short, p .long, length-field-pos (c .before .before .before .before .before .before .answer5 .given .0 .0) (c .before .before .before .before .before .known-told5 .given .0 .1), c .before .before .before .before .before .before .before .before .before .pre)
+    let p = put-zero (c .before .before .before .put-count9 .ensures) in omega (
+      arith,
+      p .short,
+      p .long,
+      length-field-pos (c .before .before .before .before .before .before .answer5 .given .0 .0)
+          (c .before .before .before .before .before .known-told5 .given .0 .1),
+      c .before .before .before .before .before .before .before .before .before .pre,
+    )
 
 same-length-6 : tie.Need-same-length-6
 same-length-6 c = search needs
@@ -153,7 +206,9 @@ returns-6 : tie.Need-returns-6
 unfolding told fields
 returns-6 c =
     let e = c .before .before .before .before .before .before .before .before .before .answer5 .given .1 in
-    let all = both (put-zero (c .before .before .before .before .before .before .put-count9 .ensures)) (last (put-wide (c .before .before .before .before .before .before .before .before .before .answer5 .given .0 .0) (c .before .before .before .before .before .before .before .before .known-told5 .given .0 .1) (c .before .before .put-count10 .ensures))) in
+    let all = both (put-zero (c .before .before .before .before .before .before .put-count9 .ensures))
+    (last (put-wide (c .before .before .before .before .before .before .before .before .before .answer5 .given .0 .0)
+    (c .before .before .before .before .before .before .before .before .known-told5 .given .0 .1) (c .before .before .put-count10 .ensures))) in
     (wrote-text (sym (ap text e)) (all .wrote), omega (arith, all .short, ap most e))
 
 pub put-answer-spec : {M : Type 1} → statement M

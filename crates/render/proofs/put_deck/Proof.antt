@@ -16,18 +16,22 @@ put-bytes-requires c κs = search needs
 
 put-count-requires : tie.Need-put-count-requires
 put-count-requires c κs =
-    let s = c .before .before .before .before .before .before .before in let p = put 4 (c .before .before .before .put-bytes .ensures) (lit≤ tt) in omega (arith, p .short, p .long, s .pre, byte-long (s .args .number) (s .fits .number .fits))
+    let s = c .before .before .before .before .before .before .before in let p = put 4 (c .before .before .before .put-bytes .ensures) (lit≤ tt) in
+    omega (arith, p .short, p .long, s .pre, byte-long (s .args .number) (s .fits .number .fits))
 
 put-count-requires-2 : tie.Need-put-count-requires-2
 put-count-requires-2 c κs =
     let s = c .before .before .before .before .before .before .before .before .before .before .before in
-    let p = both (put 4 (c .before .before .before .before .before .before .before .put-bytes .ensures) (lit≤ tt)) (put-byte (s .args .number) (s .fits .number .fits) (c .before .before .before .put-count .ensures)) in
+    let p = both (put 4 (c .before .before .before .before .before .before .before .put-bytes .ensures) (lit≤ tt))
+    (put-byte (s .args .number) (s .fits .number .fits) (c .before .before .before .put-count .ensures)) in
     omega (arith, p .short, p .long, s .pre, length-field-pos (s .args .offset) (s .fits .offset .fits))
 
 put-end-requires : tie.Need-put-end-requires
 put-end-requires c κs =
     let s = c .before .before .before .before .before .before .before .before .before .before .before .before .before .before .before in
-    let p = both (put 4 (c .before .before .before .before .before .before .before .before .before .before .before .put-bytes .ensures) (lit≤ tt)) (both (put-byte (s .args .number) (s .fits .number .fits) (c .before .before .before .before .before .before .before .put-count .ensures)) (put-wide (s .args .offset) (s .fits .offset .fits) (c .before .before .before .put-count2 .ensures))) in
+    let p = both (put 4 (c .before .before .before .before .before .before .before .before .before .before .before .put-bytes .ensures) (lit≤ tt))
+    (both (put-byte (s .args .number) (s .fits .number .fits) (c .before .before .before .before .before .before .before .put-count .ensures))
+    (put-wide (s .args .offset) (s .fits .offset .fits) (c .before .before .before .put-count2 .ensures))) in
     omega (arith, p .short, p .long, s .pre)
 
 same-length : tie.Need-same-length
@@ -37,7 +41,12 @@ returns : tie.Need-returns
 unfolding line deckWord deckLine
 returns c =
     let s = c .before .before .before .before .before .before .before .before .before .before .before .before .before .before .before .before .before .before in
-    let p = both (put 4 (c .before .before .before .before .before .before .before .before .before .before .before .before .before .before .put-bytes .ensures) (lit≤ tt)) (both (both (put-byte (s .args .number) (s .fits .number .fits) (c .before .before .before .before .before .before .before .before .before .before .put-count .ensures)) (put-wide (s .args .offset) (s .fits .offset .fits) (c .before .before .before .before .before .before .put-count2 .ensures))) (put 1 (c .before .before .put-end .ensures) (lit≤ tt))) in
+    let p = both (put 4
+    (c .before .before .before .before .before .before .before .before .before .before .before .before .before .before .put-bytes .ensures) (lit≤ tt))
+    (both (both (put-byte (s .args .number) (s .fits .number .fits)
+    (c .before .before .before .before .before .before .before .before .before .before .put-count .ensures))
+    (put-wide (s .args .offset) (s .fits .offset .fits) (c .before .before .before .before .before .before .put-count2 .ensures)))
+    (put 1 (c .before .before .put-end .ensures) (lit≤ tt))) in
     (p .wrote, omega (arith, p .short))
 
 pub put-deck-spec : {M : Type 1} → statement M

@@ -12,12 +12,23 @@ put-word-requires c κs = search needs
 
 put-answer-requires : tie.Need-put-answer-requires
 put-answer-requires c κs =
-    let p = put 8 (c .before .before .before .put-word .ensures) (word-long (c .before .before .before .before .before .before .args .order)) in omega (arith, p .short, p .long, c .before .before .before .before .before .before .pre)
+    let p = put 8 (c .before .before .before .put-word .ensures) (word-long (c .before .before .before .before .before .before .args .order)) in omega
+    (arith, p .short, p .long, c .before .before .before .before .before .before .pre)
 
 put-end-requires : tie.Need-put-end-requires
 put-end-requires c κs =
-    let p = put 8 (c .before .before .before .before .before .before .before .put-word .ensures) (word-long (c .before .before .before .before .before .before .before .before .before .before .args .order)) in
-    omega (arith, p .short, p .long, c .before .before .before .before .before .before .before .before .before .before .pre, c .before .before .before .put-answer .ensures .1, c .before .before .before .put-answer .kept .0, width-most (c .before .before .before .before .before .before .before .before .before .before .args .answer))
+    let p = put 8 (c .before .before .before .before .before .before .before .put-word .ensures)
+    (word-long (c .before .before .before .before .before .before .before .before .before .before .args .order)) in
+    omega (
+      arith,
+      p .short,
+      p .long,
+      c .before .before .before .before .before .before .before .before .before .before .pre,
+      c .before .before .before .put-answer .ensures .1,
+      c .before .before .before .put-answer .kept .0,
+      width-most
+          (c .before .before .before .before .before .before .before .before .before .before .args .answer),
+    )
 
 same-length : tie.Need-same-length
 same-length c = search needs
@@ -25,8 +36,13 @@ same-length c = search needs
 returns : tie.Need-returns
 unfolding line orderLine
 returns c =
-    let p = put 8 (c .before .before .before .before .before .before .before .before .before .before .put-word .ensures) (word-long (c .before .before .before .before .before .before .before .before .before .before .before .before .before .args .order)) in
-    let q : Put _ _ _ _ _ _ = record { wrote = c .before .before .before .before .before .before .put-answer .ensures .0; long = c .before .before .before .before .before .before .put-answer .kept .0; short = c .before .before .before .before .before .before .put-answer .ensures .1 } in
+    let p = put 8 (c .before .before .before .before .before .before .before .before .before .before .put-word .ensures)
+    (word-long (c .before .before .before .before .before .before .before .before .before .before .before .before .before .args .order)) in
+    let q : Put _ _ _ _ _ _ = record {
+      wrote = c .before .before .before .before .before .before .put-answer .ensures .0;
+      long = c .before .before .before .before .before .before .put-answer .kept .0;
+      short = c .before .before .before .before .before .before .put-answer .ensures .1;
+    } in
     let all = both p (both q (put 1 (c .before .before .put-end .ensures) (lit≤ tt))) in
     (all .wrote, omega (arith, all .short))
 

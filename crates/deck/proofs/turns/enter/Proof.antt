@@ -12,14 +12,16 @@ use Rattle.deck.proofs.turns.enter.Statement.{statement}
 use Rattle.deck.proofs.turns.enter.Tie as tie
 
 abbrev sheet : tie.Start → Entered
-sheet s = enteredIn (s .args .given) (s .args .attachments .now) (s .args .hazards .now) (s .args .discounts .now) (s .args .accruals .now) (s .args .coupons .now)
+sheet s = enteredIn (s .args .given) (s .args .attachments .now) (s .args .hazards .now) (s .args .discounts .now) (s .args .accruals .now)
+    (s .args .coupons .now)
 
 has-room-requires : tie.Need-has-room-requires
 has-room-requires c κs = search needs
 
 add-requires : tie.Need-add-requires
 add-requires c κs =
-    let s = c .before .before .before .before .before .before .before .before .before .before .before .before .before in (s .pre .1 .0, sym (c .before .before .before .before .before .before .has-room .ensures) ∙ c .before .before .before .before .before .if1 .taken)
+    let s = c .before .before .before .before .before .before .before .before .before .before .before .before .before in
+    (s .pre .1 .0, sym (c .before .before .before .before .before .before .has-room .ensures) ∙ c .before .before .before .before .before .if1 .taken)
 
 entry-size-requires : tie.Need-entry-size-requires
 entry-size-requires c κs = search needs
@@ -46,9 +48,13 @@ same-length-5 c = search needs
 returns : tie.Need-returns
 returns c =
     let s = c .before .before .before .before .before .before .before .before .before .before .before .before .before .before .before .before .before .before .before .before .before .before .before .before .before in
-    let free = room-is (s .args .entry) (s .args .given) (s .args .attachments .now) (s .args .hazards .now) (s .args .discounts .now) (s .args .accruals .now) (s .args .coupons .now) (s .pre .1 .0) ∙ sym (c .before .before .before .before .before .before .before .before .before .before .before .before .before .before .before .before .before .before .has-room .ensures) ∙ c .before .before .before .before .before .before .before .before .before .before .before .before .before .before .before .before .before .if1 .taken in (
+    let free = room-is (s .args .entry) (s .args .given) (s .args .attachments .now) (s .args .hazards .now) (s .args .discounts .now)
+    (s .args .accruals .now) (s .args .coupons .now) (s .pre .1 .0) ∙ sym
+    (c .before .before .before .before .before .before .before .before .before .before .before .before .before .before .before .before .before .before .has-room .ensures) ∙ c .before .before .before .before .before .before .before .before .before .before .before .before .before .before .before .before .before .if1 .taken in (
       c .before .before .before .before .before .before .before .before .before .before .before .add .ensures .0,
-      (λ register ds ps row. enter-went (s .args .entry) (s .args .at) _ (s .args .out .now) (s .args .w) (sheet s) _ _ (s .args .walk) register ds ps row free (c .before .before .before .before .before .before .before .before .before .before .before .add .ensures .1) (c .entry-size .ensures)),
+      (λ register ds ps row. enter-went (s .args .entry) (s .args .at) _ (s .args .out .now) (s .args .w) (sheet s) _ _
+          (s .args .walk) register ds ps row free
+          (c .before .before .before .before .before .before .before .before .before .before .before .add .ensures .1) (c .entry-size .ensures)),
     )
 
 refuse-requires : tie.Need-refuse-requires
@@ -61,9 +67,13 @@ returns-2 : tie.Need-returns-2
 returns-2 c =
     let s = c .before .before .before .before .before .before .before .before .before .before .before .before in
     let r = c .before .before .refuse .ensures in
-    let full = room-is (s .args .entry) (s .args .given) (s .args .attachments .now) (s .args .hazards .now) (s .args .discounts .now) (s .args .accruals .now) (s .args .coupons .now) (s .pre .1 .0) ∙ sym (c .before .before .before .before .before .has-room .ensures) ∙ c .before .before .before .before .if1 .left in (
-      subst (λ (g : Given). Held g (s .args .attachments .now) (s .args .hazards .now) (s .args .discounts .now) (s .args .accruals .now) (s .args .coupons .now)) (sym (r .given-same)) (s .pre .1 .0),
-      (λ register ds ps row. went-as (full-turn (s .args .entry) (s .args .at) (deskOf (sheet s) register (s .args .walk) ds ps row) full) (stops-went 20 (s .args .at) (s .args .given) _ _ r)),
+    let full = room-is (s .args .entry) (s .args .given) (s .args .attachments .now) (s .args .hazards .now) (s .args .discounts .now)
+    (s .args .accruals .now) (s .args .coupons .now) (s .pre .1 .0) ∙ sym (c .before .before .before .before .before .has-room .ensures)
+    ∙ c .before .before .before .before .if1 .left in (
+      subst (λ (g : Given). Held g (s .args .attachments .now) (s .args .hazards .now) (s .args .discounts .now) (s .args .accruals .now)
+          (s .args .coupons .now)) (sym (r .given-same)) (s .pre .1 .0),
+      (λ register ds ps row. went-as (full-turn (s .args .entry) (s .args .at) (deskOf (sheet s) register (s .args .walk) ds ps row) full)
+          (stops-went 20 (s .args .at) (s .args .given) _ _ r)),
     )
 
 pub enter-spec : {M : Type 1} → statement M

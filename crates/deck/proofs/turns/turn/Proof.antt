@@ -11,7 +11,8 @@ use Rattle.deck.proofs.turns.turn.Statement.{statement}
 use Rattle.deck.proofs.turns.turn.Tie as tie
 
 abbrev before : tie.Start → Desk
-before s = deskIn (s .args .given) (s .args .walk) (s .args .attachments .now) (s .args .hazards .now) (s .args .discounts .now) (s .args .accruals .now) (s .args .coupons .now) (s .args .register .now) (s .args .defaults .now) (s .args .premiums .now) (s .args .row .now)
+before s = deskIn (s .args .given) (s .args .walk) (s .args .attachments .now) (s .args .hazards .now) (s .args .discounts .now)
+    (s .args .accruals .now) (s .args .coupons .now) (s .args .register .now) (s .args .defaults .now) (s .args .premiums .now) (s .args .row .now)
 
 command-at-requires : tie.Need-command-at-requires
 command-at-requires c κs = search needs
@@ -28,8 +29,16 @@ same-length c = search needs
 returns : tie.Need-returns
 returns c =
     let s = c .before .before .before .before .before .before .before .before .before .before .before .before .before .before .before .before .before .before in
-    let r = c .before .before .refuse .ensures in
-    (subst (λ (g : Given). Held g (s .args .attachments .now) (s .args .hazards .now) (s .args .discounts .now) (s .args .accruals .now) (s .args .coupons .now)) (sym (r .given-same)) (s .pre .1 .0), (s .pre .1 .1 .0, went-as (unknown-turn (s .args .at) (before s) (sym (c .before .before .before .before .before .before .command-at .ensures) ∙ c .before .before .before .before .enum-told .given .1)) (stops-went 18 (s .args .at) (s .args .given) _ _ r)))
+    let r = c .before .before .refuse .ensures in (
+      subst (λ (g : Given). Held g (s .args .attachments .now) (s .args .hazards .now) (s .args .discounts .now) (s .args .accruals .now)
+          (s .args .coupons .now)) (sym (r .given-same)) (s .pre .1 .0),
+      (
+        s .pre .1 .1 .0,
+        went-as
+            (unknown-turn (s .args .at) (before s) (sym (c .before .before .before .before .before .before .command-at .ensures)
+            ∙ c .before .before .before .before .enum-told .given .1)) (stops-went 18 (s .args .at) (s .args .given) _ _ r),
+      ),
+    )
 
 enum-told-2 : tie.Need-enum-told-2
 enum-told-2 c = search needs
@@ -43,8 +52,16 @@ same-length-2 c = search needs
 returns-2 : tie.Need-returns-2
 returns-2 c =
     let s = c .before .before .before .before .before .before .before .before .before .before .before .before .before .before .before .before .before .before in
-    let r = c .before .before .refuse2 .ensures in
-    (subst (λ (g : Given). Held g (s .args .attachments .now) (s .args .hazards .now) (s .args .discounts .now) (s .args .accruals .now) (s .args .coupons .now)) (sym (r .given-same)) (s .pre .1 .0), (s .pre .1 .1 .0, went-as (cut-turn (s .args .at) (before s) (sym (c .before .before .before .before .before .before .command-at .ensures) ∙ c .before .before .before .before .enum-told2 .given .1)) (stops-went 19 (s .args .at) (s .args .given) _ _ r)))
+    let r = c .before .before .refuse2 .ensures in (
+      subst (λ (g : Given). Held g (s .args .attachments .now) (s .args .hazards .now) (s .args .discounts .now) (s .args .accruals .now)
+          (s .args .coupons .now)) (sym (r .given-same)) (s .pre .1 .0),
+      (
+        s .pre .1 .1 .0,
+        went-as
+            (cut-turn (s .args .at) (before s) (sym (c .before .before .before .before .before .before .command-at .ensures)
+            ∙ c .before .before .before .before .enum-told2 .given .1)) (stops-went 19 (s .args .at) (s .args .given) _ _ r),
+      ),
+    )
 
 enum-known-entry : tie.Need-enum-known-entry
 enum-known-entry c = search needs
@@ -73,8 +90,14 @@ same-length-8 c = search needs
 
 returns-3 : tie.Need-returns-3
 returns-3 c =
-    let s = c .before .before .before .before .before .before .before .before .before .before .before .before .before .before .before .before .before .before .before .before .before .before .before .before .before .before .before .before .before .before .before .before .before .before in
-    (c .before .before .before .before .before .before .before .before .before .before .before .before .enter .ensures .0, (s .pre .1 .1 .0, went-as (enter-turn (s .args .at) (before s) (sym (c .before .before .before .before .before .before .before .before .before .before .before .before .before .before .before .before .before .before .before .before .before .before .command-at .ensures) ∙ c .before .before .before .before .before .before .before .before .before .before .before .before .before .before .before .before .before .before .before .before .entry .given .1)) (c .before .before .before .before .before .before .before .before .before .before .before .before .enter .ensures .1 (s .args .register .now) (s .args .defaults .now) (s .args .premiums .now) (s .args .row .now))))
+    let s = c .before .before .before .before .before .before .before .before .before .before .before .before .before .before .before .before .before .before .before .before .before .before .before .before .before .before .before .before .before .before .before .before .before .before in (
+      c .before .before .before .before .before .before .before .before .before .before .before .before .enter .ensures .0,
+      (
+        s .pre .1 .1 .0,
+        went-as (enter-turn (s .args .at) (before s) (sym
+            (c .before .before .before .before .before .before .before .before .before .before .before .before .before .before .before .before .before .before .before .before .before .before .command-at .ensures) ∙ c .before .before .before .before .before .before .before .before .before .before .before .before .before .before .before .before .before .before .before .before .entry .given .1)) (c .before .before .before .before .before .before .before .before .before .before .before .before .enter .ensures .1 (s .args .register .now) (s .args .defaults .now) (s .args .premiums .now) (s .args .row .now)),
+      ),
+    )
 
 enum-known-order : tie.Need-enum-known-order
 enum-known-order c = search needs
@@ -115,8 +138,15 @@ same-length-18 c = search needs
 
 returns-4 : tie.Need-returns-4
 returns-4 c =
-    let s = c .before .before .before .before .before .before .before .before .before .before .before .before .before .before .before .before .before .before .before .before .before .before .before .before .before .before .before .before .before .before .before .before .before .before .before .before in
-    (c .before .before .before .before .before .before .before .before .before .before .obey .ensures .0, (c .before .before .before .before .before .before .before .before .before .before .obey .ensures .1 .0, went-as (obey-turn (s .args .at) (before s) (sym (c .before .before .before .before .before .before .before .before .before .before .before .before .before .before .before .before .before .before .before .before .before .before .before .before .command-at .ensures) ∙ c .before .before .before .before .before .before .before .before .before .before .before .before .before .before .before .before .before .before .before .before .before .before .order .given .1)) (c .before .before .before .before .before .before .before .before .before .before .obey .ensures .1 .1)))
+    let s = c .before .before .before .before .before .before .before .before .before .before .before .before .before .before .before .before .before .before .before .before .before .before .before .before .before .before .before .before .before .before .before .before .before .before .before .before in (
+      c .before .before .before .before .before .before .before .before .before .before .obey .ensures .0,
+      (
+        c .before .before .before .before .before .before .before .before .before .before .obey .ensures .1 .0,
+        went-as
+            (obey-turn (s .args .at) (before s) (sym
+            (c .before .before .before .before .before .before .before .before .before .before .before .before .before .before .before .before .before .before .before .before .before .before .before .before .command-at .ensures) ∙ c .before .before .before .before .before .before .before .before .before .before .before .before .before .before .before .before .before .before .before .before .before .before .order .given .1)) (c .before .before .before .before .before .before .before .before .before .before .obey .ensures .1 .1),
+      ),
+    )
 
 pub turn-spec : {M : Type 1} → statement M
 turn-spec =

@@ -12,10 +12,15 @@ use Rattle.desk.proofs.calls.forward.Tie as tie
 abbrev sheet : tie.Start → Brought
 sheet s = brought (s .args .pool) (s .args .attachments .now) (s .args .hazards .now) (s .args .discounts .now) (s .args .accruals .now) (s .args .coupons .now)
 
-few : (c : tie.Else1) → c .before .before .before .before .before .before .before .before .before .before .before .before .before .before .before .before .args .count ≤ 125
+few : (c : tie.Else1) →
+    c .before .before .before .before .before .before .before .before .before .before .before .before .before .before .before .before .args .count ≤ 125
 few c =
     let s = c .before .before .before .before .before .before .before .before .before .before .before .before .before .before .before .before in
-    let n : s .args .pool .names ≤ 125 = names-few (sheet s) (s .args .register .now) (s .args .row .now) _ _ (s .args .steps) (s .args .count) _ (c .before .before .before .before .before .before .before .before .forward-size .ensures) (s .pre) (c .before .before .before .before .before .before .forward .ensures .0) (c .before .before .enum-told .given .1) (c .before .before .before .before .before .before .forward .kept .1 .1 .1 .1 .1 .1 .1 .0) (c .before .before .before .before .before .before .forward .ensures .1) in
+    let n : s .args .pool .names ≤ 125 = names-few (sheet s) (s .args .register .now) (s .args .row .now) _ _ (s .args .steps) (s .args .count) _
+    (c .before .before .before .before .before .before .before .before .forward-size .ensures) (s .pre)
+    (c .before .before .before .before .before .before .forward .ensures .0) (c .before .before .enum-told .given .1)
+    (c .before .before .before .before .before .before .forward .kept .1 .1 .1 .1 .1 .1 .1 .0)
+    (c .before .before .before .before .before .before .forward .ensures .1) in
     omega (arith, n, c .if1 .left)
 
 forward-size-requires : tie.Need-forward-size-requires
@@ -26,7 +31,8 @@ slice-relend-prefix-forward c = search needs
 
 slice-aggregate-forward : tie.Need-slice-aggregate-forward
 slice-aggregate-forward c =
-    let s = c .before .before .before .before .before .before .before .before .before in part-long (s .args .pool .names + 1) 126 _ (s .args .row .now) (s .pre) (c .before .forward-size .ensures)
+    let s = c .before .before .before .before .before .before .before .before .before in part-long (s .args .pool .names + 1) 126 _
+    (s .args .row .now) (s .pre) (c .before .forward-size .ensures)
 
 forward-requires : tie.Need-forward-requires
 forward-requires c κs = search needs
@@ -40,7 +46,9 @@ same-length c = search needs
 returns : tie.Need-returns
 returns c =
     let s = c .before .before .before .before .before .before .before .before .before .before .before .before .before .before .before .before in
-    spread-told (sheet s) (s .args .register .now) (s .args .row .now) _ _ (s .args .steps) (s .args .count) _ (c .before .before .before .before .before .before .before .before .forward-size .ensures) (s .pre) (c .before .before .before .before .before .before .forward .ensures .0)
+    spread-told (sheet s) (s .args .register .now) (s .args .row .now) _ _ (s .args .steps) (s .args .count) _
+    (c .before .before .before .before .before .before .before .before .forward-size .ensures) (s .pre)
+    (c .before .before .before .before .before .before .forward .ensures .0)
     (said-off _ _ _ _ (c .before .before .enum-told .given .1) (c .if1 .taken))
 
 mul-t16 : tie.Need-mul-t16
@@ -50,7 +58,15 @@ mul-t16 c =
 slice-read-t18 : tie.Need-slice-read-t18
 slice-read-t18 c =
     let s = c .before .before .before .before .before .before .before .before .before .before .before .before .before .before .before .before .before in
-    omega (arith, few (c .before), s .pre, length-front (s .args .row .now) (c .before .before .before .before .before .before .before .forward .last .1 .1 .1 .1 .1 .1 .1 .0) (c .before .before .before .before .before .before .before .before .before .forward-size .result) (c .before .before .before .before .before .before .before .forward .kept .1 .1 .1 .1 .1 .1 .1 .0))
+    omega (
+      arith,
+      few (c .before),
+      s .pre,
+      length-front (s .args .row .now)
+          (c .before .before .before .before .before .before .before .forward .last .1 .1 .1 .1 .1 .1 .1 .0)
+          (c .before .before .before .before .before .before .before .before .before .forward-size .result)
+          (c .before .before .before .before .before .before .before .forward .kept .1 .1 .1 .1 .1 .1 .1 .0),
+    )
 
 same-length-2 : tie.Need-same-length-2
 same-length-2 c = search needs
@@ -58,7 +74,9 @@ same-length-2 c = search needs
 returns-2 : tie.Need-returns-2
 returns-2 c =
     let s = c .before .before .before .before .before .before .before .before .before .before .before .before .before .before .before .before .before in
-    spread-told (sheet s) (s .args .register .now) (s .args .row .now) _ _ (s .args .steps) (s .args .count) _ (c .before .before .before .before .before .before .before .before .before .forward-size .ensures) (s .pre) (c .before .before .before .before .before .before .before .forward .ensures .0)
+    spread-told (sheet s) (s .args .register .now) (s .args .row .now) _ _ (s .args .steps) (s .args .count) _
+    (c .before .before .before .before .before .before .before .before .before .forward-size .ensures) (s .pre)
+    (c .before .before .before .before .before .before .before .forward .ensures .0)
     (said-count _ _ _ _ (c .before .before .before .enum-told .given .1) (c .before .if1 .left))
 
 walked-requires : tie.Need-walked-requires
@@ -70,7 +88,8 @@ same-length-3 c = search needs
 returns-3 : tie.Need-returns-3
 returns-3 c =
     let s = c .before .before .before .before .before .before .before .before .before .before .before .before .before .before in
-    spread-told (sheet s) (s .args .register .now) (s .args .row .now) _ _ (s .args .steps) (s .args .count) _ (c .before .before .before .before .before .before .forward-size .ensures) (s .pre) (c .before .before .before .before .forward .ensures .0)
+    spread-told (sheet s) (s .args .register .now) (s .args .row .now) _ _ (s .args .steps) (s .args .count) _
+    (c .before .before .before .before .before .before .forward-size .ensures) (s .pre) (c .before .before .before .before .forward .ensures .0)
     (c .walked .ensures ∙ said-other _ _ _ _ (c .before .match .keys2))
 
 pub forward-spec : {M : Type 1} → statement M

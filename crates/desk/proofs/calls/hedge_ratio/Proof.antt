@@ -16,11 +16,13 @@ row-size-requires c κs = search needs
 
 slice-aggregate-hedge-ratio : tie.Need-slice-aggregate-hedge-ratio
 slice-aggregate-hedge-ratio c =
-    let s = c .before .before .before .before .before .before .before .before .before .before in part-long (rowSize (sheet s)) 1134 _ (s .args .defaults .now) (s .pre .0) (c .before .row-size .ensures)
+    let s = c .before .before .before .before .before .before .before .before .before .before in part-long (rowSize (sheet s)) 1134 _
+    (s .args .defaults .now) (s .pre .0) (c .before .row-size .ensures)
 
 slice-aggregate-hedge-ratio-2 : tie.Need-slice-aggregate-hedge-ratio-2
 slice-aggregate-hedge-ratio-2 c =
-    let s = c .before .before .before .before .before .before .before .before .before .before .before in part-long (rowSize (sheet s)) 1134 _ (s .args .premiums .now) (s .pre .1) (c .before .before .row-size .ensures)
+    let s = c .before .before .before .before .before .before .before .before .before .before .before in part-long (rowSize (sheet s)) 1134 _
+    (s .args .premiums .now) (s .pre .1) (c .before .before .row-size .ensures)
 
 hedge-ratio-requires : tie.Need-hedge-ratio-requires
 hedge-ratio-requires c κs = search needs

@@ -19,14 +19,16 @@ slice-relend-prefix-open c = search needs
 
 slice-aggregate-open : tie.Need-slice-aggregate-open
 slice-aggregate-open c =
-    let s = c .before .before .before .before .before .before .before .before .before .before in part-long (rowSize (sheet s)) 1134 _ (s .args .defaults .now) (s .pre .0) (c .before .row-size .ensures)
+    let s = c .before .before .before .before .before .before .before .before .before .before in part-long (rowSize (sheet s)) 1134 _
+    (s .args .defaults .now) (s .pre .0) (c .before .row-size .ensures)
 
 slice-relend-prefix-open-2 : tie.Need-slice-relend-prefix-open-2
 slice-relend-prefix-open-2 c = search needs
 
 slice-aggregate-open-2 : tie.Need-slice-aggregate-open-2
 slice-aggregate-open-2 c =
-    let s = c .before .before .before .before .before .before .before .before .before .before .before in part-long (rowSize (sheet s)) 1134 _ (s .args .premiums .now) (s .pre .1) (c .before .before .row-size .ensures)
+    let s = c .before .before .before .before .before .before .before .before .before .before .before in part-long (rowSize (sheet s)) 1134 _
+    (s .args .premiums .now) (s .pre .1) (c .before .before .row-size .ensures)
 
 open-requires : tie.Need-open-requires
 open-requires c κs = search needs
@@ -41,7 +43,8 @@ returns : tie.Need-returns
 unfolding openIn
 returns c =
     let s = c .before .before .before .before .before .before .before .before .before .before .before .before .before .before .before .before in
-    rooms-told (sheet s) (s .args .defaults .now) (s .args .premiums .now) _ (c .before .before .before .before .before .before .before .row-size .ensures) (s .pre .0) (s .pre .1)
+    rooms-told (sheet s) (s .args .defaults .now) (s .args .premiums .now) _
+    (c .before .before .before .before .before .before .before .row-size .ensures) (s .pre .0) (s .pre .1)
     (λ (l : Rows). openCall (sheet s) (s .args .register .now) (s .args .walk) l)
     (c .before .before .before .before .«open» .ensures .0)
 

@@ -11,7 +11,11 @@ returns c =
 
 returns-2 : tie.Need-returns-2
 returns-2 c =
-    omega (arith, product-right (c .before .before .before .before .args .pool .tranches) (c .before .before .before .before .args .pool .names) (c .if2 .taken))
+    omega (
+      arith,
+      product-right (c .before .before .before .before .args .pool .tranches) (c .before .before .before .before .args .pool .names)
+          (c .if2 .taken),
+    )
 
 add-size : tie.Need-add-size
 add-size c = search needs
@@ -21,7 +25,12 @@ add-size-2 c = search needs
 
 mul-size : tie.Need-mul-size
 mul-size c =
-    omega (arith, product-most (c .before .before .before .before .before .before .args .pool .tranches) (c .before .before .before .before .before .before .args .pool .names) (c .before .before .before .before .if1 .left) (c .before .before .if2 .left))
+    omega (
+      arith,
+      product-most (c .before .before .before .before .before .before .args .pool .tranches)
+          (c .before .before .before .before .before .before .args .pool .names) (c .before .before .before .before .if1 .left)
+          (c .before .before .if2 .left),
+    )
 
 returns-3 : tie.Need-returns-3
 returns-3 c = search needs

@@ -16,11 +16,13 @@ row-size-requires c κs = search needs
 
 slice-aggregate-value : tie.Need-slice-aggregate-value
 slice-aggregate-value c =
-    let s = c .before .before .before .before .before .before .before .before .before .before in part-long (rowSize (sheet s)) 1134 _ (s .args .defaults .now) (s .pre .0) (c .before .row-size .ensures)
+    let s = c .before .before .before .before .before .before .before .before .before .before in part-long (rowSize (sheet s)) 1134 _
+    (s .args .defaults .now) (s .pre .0) (c .before .row-size .ensures)
 
 slice-aggregate-value-2 : tie.Need-slice-aggregate-value-2
 slice-aggregate-value-2 c =
-    let s = c .before .before .before .before .before .before .before .before .before .before .before in part-long (rowSize (sheet s)) 1134 _ (s .args .premiums .now) (s .pre .1) (c .before .before .row-size .ensures)
+    let s = c .before .before .before .before .before .before .before .before .before .before .before in part-long (rowSize (sheet s)) 1134 _
+    (s .args .premiums .now) (s .pre .1) (c .before .before .row-size .ensures)
 
 value-requires : tie.Need-value-requires
 value-requires c κs = search needs

@@ -11,7 +11,8 @@ enum-known-entry c = search needs
 returns : tie.Need-returns
 returns c =
     let a = c .before .before .before .args in let p = c .before .before .before .pre in let q = c .before .entry .given .1 in
-    entries.pooled (a .entry) (a .given) (a .attachments .now) (a .hazards .now) (a .discounts .now) (a .accruals .now) (a .coupons .now) (p .0) (p .1) _ _ _ _ _ q
+    entries.pooled (a .entry) (a .given) (a .attachments .now) (a .hazards .now) (a .discounts .now) (a .accruals .now) (a .coupons .now) (p .0)
+    (p .1) _ _ _ _ _ q
 
 enum-known-entry-2 : tie.Need-enum-known-entry-2
 enum-known-entry-2 c = search needs
@@ -22,7 +23,12 @@ mul-attachments c = search needs
 slice-write-attachments : tie.Need-slice-write-attachments
 slice-write-attachments c =
     let a = c .before .before .before .args in let p = c .before .before .before .pre in let q = c .before .entry2 .given .1 in
-    omega (arith, entries.attachment-room (a .entry) (a .given) (a .attachments .now) (a .hazards .now) (a .discounts .now) (a .accruals .now) (a .coupons .now) (p .0) (p .1) _ q, p .0)
+    omega (
+      arith,
+      entries.attachment-room (a .entry) (a .given) (a .attachments .now) (a .hazards .now) (a .discounts .now) (a .accruals .now)
+          (a .coupons .now) (p .0) (p .1) _ q,
+      p .0,
+    )
 
 add-g : tie.Need-add-g
 add-g c = search needs
@@ -33,7 +39,8 @@ same-length c = search needs
 returns-2 : tie.Need-returns-2
 returns-2 c =
     let a = c .before .before .before .args in let p = c .before .before .before .pre in let q = c .before .entry2 .given .1 in
-    entries.attachment-more (a .entry) (a .given) (a .attachments .now) (a .hazards .now) (a .discounts .now) (a .accruals .now) (a .coupons .now) (p .0) (p .1) _ q
+    entries.attachment-more (a .entry) (a .given) (a .attachments .now) (a .hazards .now) (a .discounts .now) (a .accruals .now) (a .coupons .now)
+    (p .0) (p .1) _ q
 
 enum-known-entry-3 : tie.Need-enum-known-entry-3
 enum-known-entry-3 c = search needs
@@ -44,7 +51,12 @@ mul-hazards c = search needs
 slice-write-hazards : tie.Need-slice-write-hazards
 slice-write-hazards c =
     let a = c .before .before .before .args in let p = c .before .before .before .pre in let q = c .before .entry3 .given .1 in
-    omega (arith, entries.hazard-room (a .entry) (a .given) (a .attachments .now) (a .hazards .now) (a .discounts .now) (a .accruals .now) (a .coupons .now) (p .0) (p .1) _ q, p .0)
+    omega (
+      arith,
+      entries.hazard-room (a .entry) (a .given) (a .attachments .now) (a .hazards .now) (a .discounts .now) (a .accruals .now)
+          (a .coupons .now) (p .0) (p .1) _ q,
+      p .0,
+    )
 
 add-g-2 : tie.Need-add-g-2
 add-g-2 c = search needs
@@ -66,7 +78,12 @@ mul-discounts c = search needs
 slice-write-discounts : tie.Need-slice-write-discounts
 slice-write-discounts c =
     let a = c .before .before .before .args in let p = c .before .before .before .pre in let q = c .before .entry4 .given .1 in
-    omega (arith, entries.step-room (a .entry) (a .given) (a .attachments .now) (a .hazards .now) (a .discounts .now) (a .accruals .now) (a .coupons .now) (p .0) (p .1) _ _ q, p .0)
+    omega (
+      arith,
+      entries.step-room (a .entry) (a .given) (a .attachments .now) (a .hazards .now) (a .discounts .now) (a .accruals .now)
+          (a .coupons .now) (p .0) (p .1) _ _ q,
+      p .0,
+    )
 
 mul-accruals : tie.Need-mul-accruals
 mul-accruals c = search needs
@@ -74,7 +91,12 @@ mul-accruals c = search needs
 slice-write-accruals : tie.Need-slice-write-accruals
 slice-write-accruals c =
     let a = c .before .before .before .args in let p = c .before .before .before .pre in let q = c .before .entry4 .given .1 in
-    omega (arith, entries.step-room (a .entry) (a .given) (a .attachments .now) (a .hazards .now) (a .discounts .now) (a .accruals .now) (a .coupons .now) (p .0) (p .1) _ _ q, p .0)
+    omega (
+      arith,
+      entries.step-room (a .entry) (a .given) (a .attachments .now) (a .hazards .now) (a .discounts .now) (a .accruals .now)
+          (a .coupons .now) (p .0) (p .1) _ _ q,
+      p .0,
+    )
 
 add-g-3 : tie.Need-add-g-3
 add-g-3 c = search needs
@@ -99,7 +121,12 @@ mul-coupons c = search needs
 slice-write-coupons : tie.Need-slice-write-coupons
 slice-write-coupons c =
     let a = c .before .before .before .args in let p = c .before .before .before .pre in let q = c .before .entry5 .given .1 in
-    omega (arith, entries.coupon-room (a .entry) (a .given) (a .attachments .now) (a .hazards .now) (a .discounts .now) (a .accruals .now) (a .coupons .now) (p .0) (p .1) _ q, p .0)
+    omega (
+      arith,
+      entries.coupon-room (a .entry) (a .given) (a .attachments .now) (a .hazards .now) (a .discounts .now) (a .accruals .now)
+          (a .coupons .now) (p .0) (p .1) _ q,
+      p .0,
+    )
 
 add-g-4 : tie.Need-add-g-4
 add-g-4 c = search needs

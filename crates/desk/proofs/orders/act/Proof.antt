@@ -1,14 +1,14 @@
 -- `desk::orders::act` meets its contract: each way out is a law of `Acting`. Assumes nothing.
-use mathlib.Core.Path.{_∙_}
 use Rattle.desk.specs.Desk.{Entered}
 use Rattle.desk.specs.Held.{enteredBy}
-use Rattle.desk.proofs.Acting.{issue-acts, withdraw-acts, open-acts, back-acts, value-acts, delta-acts, forward-acts}
+use Rattle.desk.proofs.Acting.{issue-acts, withdraw-acts, open-acts, back-acts, value-acts, delta-acts, forward-acts, roomy-register, roomy-rooms, roomy-row}
 use borrow.Author.Needs.{needs}
 use Rattle.desk.proofs.orders.act.Statement.{statement}
 use Rattle.desk.proofs.orders.act.Tie as tie
 
 abbrev sheet : tie.Start → Entered
-sheet s = enteredBy (s .args .given) (s .args .attachments .now) (s .args .hazards .now) (s .args .discounts .now) (s .args .accruals .now) (s .args .coupons .now)
+sheet s = enteredBy (s .args .given) (s .args .attachments .now) (s .args .hazards .now) (s .args .discounts .now) (s .args .accruals .now)
+    (s .args .coupons .now)
 
 enum-known-order : tie.Need-enum-known-order
 enum-known-order c = search needs
@@ -25,8 +25,12 @@ same-length c = search needs
 returns : tie.Need-returns
 returns c =
     let s = c .before .before .before .before .before .before .before .before .before .before .before .before .before .before .before .before .before .before in
-    let p = s .pre in
-    (record { register-long = c .before .before .before .issue .kept .0 ∙ p .register-long; defaults-long = p .defaults-long; premiums-long = p .premiums-long; row-long = p .row-long }, issue-acts (s .args .order) (sheet s) (s .args .walk) (s .args .register .now) (s .args .defaults .now) (s .args .premiums .now) (s .args .row .now) (c .before .before .before .before .before .before .order .given .1) (c .before .before .before .issue .ensures .0) (c .before .before .before .issue .ensures .1 .0) (c .written .ensures))
+    let t = c .before .before .before in (
+      roomy-register (s .pre) (t .issue .kept .0),
+      issue-acts (s .args .order) (sheet s) (s .args .walk) (s .args .register .now)
+          (s .args .defaults .now) (s .args .premiums .now) (s .args .row .now) (c .before .before .before .before .before .before .order .given .1)
+          (t .issue .ensures .0) (t .issue .ensures .1 .0) (c .written .ensures),
+    )
 
 enum-known-order-2 : tie.Need-enum-known-order-2
 enum-known-order-2 c = search needs
@@ -43,8 +47,12 @@ same-length-2 c = search needs
 returns-2 : tie.Need-returns-2
 returns-2 c =
     let s = c .before .before .before .before .before .before .before .before .before .before .before .before .before .before .before .before .before .before in
-    let p = s .pre in
-    (record { register-long = c .before .before .before .withdraw .kept .0 ∙ p .register-long; defaults-long = p .defaults-long; premiums-long = p .premiums-long; row-long = p .row-long }, withdraw-acts (s .args .order) (sheet s) (s .args .walk) (s .args .register .now) (s .args .defaults .now) (s .args .premiums .now) (s .args .row .now) (c .before .before .before .before .before .before .order2 .given .1) (c .before .before .before .withdraw .ensures .0) (c .before .before .before .withdraw .ensures .1 .0) (c .written2 .ensures))
+    let t = c .before .before .before in (
+      roomy-register (s .pre) (t .withdraw .kept .0),
+      withdraw-acts (s .args .order) (sheet s) (s .args .walk) (s .args .register .now)
+          (s .args .defaults .now) (s .args .premiums .now) (s .args .row .now) (c .before .before .before .before .before .before .order2 .given .1)
+          (t .withdraw .ensures .0) (t .withdraw .ensures .1 .0) (c .written2 .ensures),
+    )
 
 enum-told : tie.Need-enum-told
 enum-told c = search needs
@@ -67,8 +75,12 @@ same-length-5 c = search needs
 returns-3 : tie.Need-returns-3
 returns-3 c =
     let s = c .before .before .before .before .before .before .before .before .before .before .before .before .before .before .before .before .before .before .before .before .before in
-    let p = s .pre in
-    (record { register-long = p .register-long; defaults-long = c .before .before .before .before .before .«open» .kept .1 .1 .1 .1 .1 .1 .1 .1 .0 ∙ p .defaults-long; premiums-long = c .before .before .before .before .before .«open» .kept .1 .1 .1 .1 .1 .1 .1 .1 .1 .0 ∙ p .premiums-long; row-long = p .row-long }, open-acts (s .args .order) (sheet s) (s .args .walk) (s .args .register .now) (s .args .defaults .now) (s .args .premiums .now) (s .args .row .now) (c .before .before .before .before .before .before .before .before .before .enum-told .given .1) (c .before .before .before .before .before .«open» .ensures) (c .replied .ensures))
+    let t = c .before .before .before .before .before in (
+      roomy-rooms (s .pre) (t .«open» .kept .1 .1 .1 .1 .1 .1 .1 .1 .0) (t .«open» .kept .1 .1 .1 .1 .1 .1 .1 .1 .1 .0),
+      open-acts (s .args .order)
+          (sheet s) (s .args .walk) (s .args .register .now) (s .args .defaults .now) (s .args .premiums .now) (s .args .row .now)
+          (c .before .before .before .before .before .before .before .before .before .enum-told .given .1) (t .«open» .ensures) (c .replied .ensures),
+    )
 
 enum-known-order-3 : tie.Need-enum-known-order-3
 enum-known-order-3 c = search needs
@@ -91,8 +103,12 @@ same-length-8 c = search needs
 returns-4 : tie.Need-returns-4
 returns-4 c =
     let s = c .before .before .before .before .before .before .before .before .before .before .before .before .before .before .before .before .before .before .before .before .before .before in
-    let p = s .pre in
-    (record { register-long = p .register-long; defaults-long = c .before .before .before .before .before .back .kept .1 .1 .1 .1 .1 .1 .1 .1 .0 ∙ p .defaults-long; premiums-long = c .before .before .before .before .before .back .kept .1 .1 .1 .1 .1 .1 .1 .1 .1 .0 ∙ p .premiums-long; row-long = p .row-long }, back-acts (s .args .order) (sheet s) (s .args .walk) (s .args .register .now) (s .args .defaults .now) (s .args .premiums .now) (s .args .row .now) (c .before .before .before .before .before .before .before .before .before .before .order3 .given .1) (c .before .before .before .before .before .back .ensures) (c .replied2 .ensures))
+    let t = c .before .before .before .before .before in (
+      roomy-rooms (s .pre) (t .back .kept .1 .1 .1 .1 .1 .1 .1 .1 .0) (t .back .kept .1 .1 .1 .1 .1 .1 .1 .1 .1 .0),
+      back-acts (s .args .order)
+          (sheet s) (s .args .walk) (s .args .register .now) (s .args .defaults .now) (s .args .premiums .now) (s .args .row .now)
+          (c .before .before .before .before .before .before .before .before .before .before .order3 .given .1) (t .back .ensures) (c .replied2 .ensures),
+    )
 
 enum-known-order-4 : tie.Need-enum-known-order-4
 enum-known-order-4 c = search needs
@@ -115,8 +131,11 @@ same-length-11 c = search needs
 returns-5 : tie.Need-returns-5
 returns-5 c =
     let s = c .before .before .before .before .before .before .before .before .before .before .before .before .before .before .before .before .before .before in
-    let p = s .pre in
-    (record { register-long = p .register-long; defaults-long = p .defaults-long; premiums-long = p .premiums-long; row-long = p .row-long }, value-acts (s .args .order) (sheet s) (s .args .walk) (s .args .register .now) (s .args .defaults .now) (s .args .premiums .now) (s .args .row .now) (c .before .before .before .before .before .before .order4 .given .1) (c .before .value .ensures) (c .replied3 .ensures))
+    let t = c .before in (
+      s .pre,
+      value-acts (s .args .order) (sheet s) (s .args .walk) (s .args .register .now) (s .args .defaults .now) (s .args .premiums .now)
+          (s .args .row .now) (c .before .before .before .before .before .before .order4 .given .1) (t .value .ensures) (c .replied3 .ensures),
+    )
 
 enum-known-order-5 : tie.Need-enum-known-order-5
 enum-known-order-5 c = search needs
@@ -139,8 +158,11 @@ same-length-14 c = search needs
 returns-6 : tie.Need-returns-6
 returns-6 c =
     let s = c .before .before .before .before .before .before .before .before .before .before .before .before .before .before .before .before .before .before in
-    let p = s .pre in
-    (record { register-long = p .register-long; defaults-long = p .defaults-long; premiums-long = p .premiums-long; row-long = p .row-long }, delta-acts (s .args .order) (sheet s) (s .args .walk) (s .args .register .now) (s .args .defaults .now) (s .args .premiums .now) (s .args .row .now) (c .before .before .before .before .before .before .order5 .given .1) (c .before .hedge-ratio .ensures) (c .replied4 .ensures))
+    let t = c .before in (
+      s .pre,
+      delta-acts (s .args .order) (sheet s) (s .args .walk) (s .args .register .now) (s .args .defaults .now) (s .args .premiums .now)
+          (s .args .row .now) (c .before .before .before .before .before .before .order5 .given .1) (t .hedge-ratio .ensures) (c .replied4 .ensures),
+    )
 
 enum-known-order-6 : tie.Need-enum-known-order-6
 enum-known-order-6 c = search needs
@@ -157,8 +179,12 @@ same-length-16 c = search needs
 returns-7 : tie.Need-returns-7
 returns-7 c =
     let s = c .before .before .before .before .before .before .before .before .before .before .before .before .before .before .before .before .before .before in
-    let p = s .pre in
-    (record { register-long = p .register-long; defaults-long = p .defaults-long; premiums-long = p .premiums-long; row-long = c .before .before .forward .kept .1 .1 .1 .1 .1 .1 .1 .0 ∙ p .row-long }, forward-acts (s .args .order) (sheet s) (s .args .walk) (s .args .register .now) (s .args .defaults .now) (s .args .premiums .now) (s .args .row .now) (c .before .before .before .before .before .before .order6 .given .1) (c .before .before .forward .ensures))
+    let t = c .before .before in (
+      roomy-row (s .pre) (t .forward .kept .1 .1 .1 .1 .1 .1 .1 .0),
+      forward-acts (s .args .order) (sheet s) (s .args .walk) (s .args .register .now)
+          (s .args .defaults .now) (s .args .premiums .now) (s .args .row .now) (c .before .before .before .before .before .before .order6 .given .1)
+          (t .forward .ensures),
+    )
 
 pub act-spec : {M : Type 1} → statement M
 act-spec =
