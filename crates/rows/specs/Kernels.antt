@@ -1,4 +1,4 @@
--- What the row functions do, on plain lists, and what keeps each within 64 bits.
+-- What the row functions do, on plain lists, and what keeps each within 64 bits (document 01, 'Walking back').
 use Prim.Native.Nat.{ℕ, suc, _+_, _*_, _≤_, _<_}
 use mathlib.Core.Path.{_≡_}
 use mathlib.Core.Bool.{cond}
@@ -24,7 +24,7 @@ rolledIn w hazards discount cash rows j k =
 unfoldable pub accruedAt : ℕ → List ℕ → List ℕ → ℕ → ℕ
 accruedAt accrual outstandings rows i = getD rows i 0 + premiumPayment accrual (getD outstandings i 0)
 
--- What a default from the count k takes from tranche j. None comes from the last count.
+-- What a default from the count k takes from tranche j. None comes from the last count. ('Arithmetic and cash')
 unfoldable pub paymentOf : Sheet → ℕ → ℕ → ℕ
 paymentOf x j k = cond (ltb k (x .names)) (defaultPayment (lossOf x j k) (lossOf x j (suc k))) 0
 

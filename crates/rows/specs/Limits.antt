@@ -1,4 +1,4 @@
--- What callers have checked of a sheet and its rows before a walk goes on.
+-- What callers have checked of a sheet and its rows before a walk goes on (document 01, 'Sheet and units' and 'Walking back').
 use Prim.Native.Nat.{ℕ, suc, _+_, _*_, _≤_, _<_}
 use mathlib.Core.Path.{_≡_}
 use mathlib.Core.List.{List, []}
@@ -8,7 +8,7 @@ use Rattle.tree.specs.Sheet.{Sheet, Within, lossOf, sumOf}
 use Rattle.rows.specs.Rows.{sheetOf, nodeIn}
 use Rattle.rows.specs.declared.Pool.{Pool}
 
--- The sizes and limits of a sheet (refusals 1 to 7 of document 01).
+-- The sizes and limits of a sheet ('Sheet and units', and refusals 1 to 7 of 'Refusals in order').
 pub record Limits (x : Sheet) : Type 0 where
   pub within : Within x
   pub names-most : x .names ≤ 125
@@ -21,7 +21,7 @@ pub record Limits (x : Sheet) : Type 0 where
   pub accrual-most : (i : ℕ) → getD (x .accruals) i 0 ≤ B
   pub accruals-most : sumOf (x .accruals) ≤ 10 * B
 
--- What is needed of them where only losses and what is outstanding are asked.
+-- What is needed of them where only losses and what is outstanding are asked. ('Arithmetic and cash')
 pub record Tranched (x : Sheet) : Type 0 where
   pub names-some : 0 < x .names
   pub names-most : x .names ≤ 125
@@ -31,15 +31,15 @@ pub record Tranched (x : Sheet) : Type 0 where
   pub attachment-most : (j : ℕ) → getD (x .attachments) j 0 ≤ B
   pub attachments-rise : (j : ℕ) → j < x .tranches → getD (x .attachments) j 0 < getD (x .attachments) (suc j) 0
 
--- The sheet of a pool and its attachments: losses and what is outstanding rest on no other list.
+-- The sheet of a pool and its attachments: losses and what is outstanding rest on no other list. ('Arithmetic and cash')
 abbrev pub bare : Pool → List ℕ → Sheet
 bare pool attachments = sheetOf pool attachments [] [] []
 
--- How long a row is.
+-- How long a row is. ('Walking back')
 abbrev pub size : Sheet → ℕ
 size x = suc (x .tranches) * suc (x .names)
 
--- Rows at a position that can be walked count steps back. Their bounds are wider than their ceilings, and a step back keeps them.
+-- Rows at a position that can be walked count steps back. Their bounds are wider than their ceilings, and a step back keeps them. ('Walking back')
 pub record Rollable (x : Sheet) (defaults premiums : List ℕ) (position count : ℕ) : Type 0 where
   pub limits : Limits x
   pub position-most : position ≤ x .steps

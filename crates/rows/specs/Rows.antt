@@ -10,7 +10,7 @@ use Rattle.tree.specs.Forward.{distribution}
 use Rattle.rows.specs.Tables.{tab, entry, grid, any}
 use Rattle.rows.specs.declared.Pool.{Pool}
 
--- The sheet that a pool and its lists tell.
+-- The sheet that a pool and its lists tell. ('Sheet and units')
 abbrev pub sheetOf : Pool → List ℕ → List ℕ → List ℕ → List ℕ → Sheet
 sheetOf pool attachments hazards discounts accruals =
     record {
@@ -53,6 +53,6 @@ anyOver x most row = any (suc (x .tranches)) (λ j. any (suc (x .names)) (λ k. 
 unfoldable pub soiled : Sheet → ℕ → List ℕ → List ℕ → Bool
 soiled x i defaults premiums = anyOver x (defaultMost x) defaults || anyOver x (λ j k. premiumMost x i k) premiums
 
--- The distribution of the default count after i steps, as the lent row holds it.
+-- The distribution of the default count after i steps, as the lent row holds it. ('Going forward')
 unfoldable pub spreadRow : Sheet → ℕ → List ℕ
 spreadRow x i = tab (suc (x .names)) (distribution (treeOf x) i)

@@ -1,4 +1,4 @@
--- A sheet by its lists, and what each means on the tree (document 01, 'Sheet and units' and 'Arithmetic and cash').
+-- A sheet by its lists, and what each means on the tree (document 01, 'Sheet and units', 'Arithmetic and cash' and 'Walking back').
 use Prim.Native.Nat.{ℕ, suc, pred, _+_, _-_, _≤_, _<_}
 use mathlib.Core.Bool.{cond}
 use mathlib.Core.List.{List, [], _∷_}
@@ -10,7 +10,7 @@ use Rattle.tree.specs.Paths.{Tree}
 use Rattle.tree.specs.Backward.{Leg, over, legValue, legExact}
 use Rattle.tree.specs.Legs.{defaultLeg, premiumLeg, mark}
 
--- What a sheet's values rest on: all of it but its number and coupons.
+-- What a sheet's values rest on: all of it but its number and coupons. ('Sheet and units')
 pub record Sheet : Type 0 where
   pub names : ℕ
   pub steps : ℕ
@@ -21,7 +21,7 @@ pub record Sheet : Type 0 where
   pub discounts : List ℕ
   pub accruals : List ℕ
 
--- The limits that the values need.
+-- The limits that the values need. ('Sheet and units')
 pub record Within (x : Sheet) : Type 0 where
   pub some : 0 < x .names
   pub hazard-most : (k : ℕ) → getD (x .hazards) k 0 ≤ B
@@ -29,39 +29,40 @@ pub record Within (x : Sheet) : Type 0 where
   pub attachment-most : (j : ℕ) → getD (x .attachments) j 0 ≤ B
   pub attachments-rise : (j : ℕ) → j < x .tranches → getD (x .attachments) j 0 < getD (x .attachments) (suc j) 0
 
--- p: the chance of a default into step s from the count k. None comes from the last count.
+-- p: the chance of a default into step s from the count k. None comes from the last count. ('Sheet and units')
 unfoldable pub hazardOf : Sheet → ℕ → ℕ → ℕ
 hazardOf x s k = cond (ltb k (x .names)) (getD (x .hazards) k 0) 0
 
--- v and a of step s stand at s - 1 in their lists.
+-- v and a of step s stand at s - 1 in their lists. ('Sheet and units')
 unfoldable pub discountOf : Sheet → ℕ → ℕ
 discountOf x s = getD (x .discounts) (pred s) 0
 
 unfoldable pub accrualOf : Sheet → ℕ → ℕ
 accrualOf x s = getD (x .accruals) (pred s) 0
 
--- L(k)
+-- L(k) ('Arithmetic and cash')
 unfoldable pub poolLossOf : Sheet → ℕ → ℕ
 poolLossOf x k = poolLoss (x .names) (x .recovery) k
 
--- M(k) of tranche j; tranche r is the index.
+-- M(k) of tranche j; tranche r is the index. ('Arithmetic and cash')
 unfoldable pub lossOf : Sheet → ℕ → ℕ → ℕ
 lossOf x j k =
     cond (ltb j (x .tranches))
     (trancheLoss (getD (x .attachments) j 0) (getD (x .attachments) (suc j) 0) (poolLossOf x k))
     (poolLossOf x k)
 
--- Its width.
+-- Its width. ('Arithmetic and cash')
 unfoldable pub widthOf : Sheet → ℕ → ℕ
 widthOf x j = cond (ltb j (x .tranches)) (getD (x .attachments) (suc j) 0 - getD (x .attachments) j 0) (B - x .recovery)
 
--- O(k) of tranche j.
+-- O(k) of tranche j. ('Arithmetic and cash')
 unfoldable pub outstandingOf : Sheet → ℕ → ℕ → ℕ
 outstandingOf x j k =
     cond (ltb j (x .tranches))
     (trancheOutstanding (getD (x .attachments) j 0) (getD (x .attachments) (suc j) 0) (poolLossOf x k))
     (indexOutstanding (x .names) k)
 
+-- The tree of a sheet. ('Walking back', as all below)
 unfoldable pub treeOf : Sheet → Tree
 treeOf x = record { names = x .names; hazard = hazardOf x; discount = discountOf x }
 

@@ -1,4 +1,4 @@
--- What the laws of the tree say of every sheet within limits. Proofs stand in proofs/.
+-- What the laws of the tree say of every sheet within limits (document 01, 'Walking back' but where said). Proofs stand in proofs/.
 use Prim.Native.Nat.{ℕ, suc, _+_, _*_, _^_, _≤_, _<_}
 use mathlib.Core.Path.{_≡_}
 use Rattle.cash.specs.Units.{B}
@@ -33,12 +33,12 @@ pub record Ceilings (x : Sheet) : Type 0 where
   pub default : (j h i k : ℕ) → i + h ≡ x .steps → k ≤ x .names → D x j h i k ≤ defaultMost x j k
   pub premium : (j h i k : ℕ) → i + h ≡ x .steps → k ≤ x .names → A x j h i k ≤ premiumMost x i k
 
--- A default never lowers the default leg by more than it pays, and never raises the premium leg. So no jump on walked rows is negative.
+-- A default never lowers the default leg by more than it pays, and never raises the premium leg. So no jump on walked rows is negative. ('Hedge ratio')
 pub record Jumps (x : Sheet) : Type 0 where
   pub default : (j h i k : ℕ) → k < x .names → D x j h i k ≤ defaultPayment (lossOf x j k) (lossOf x j (suc k)) + D x j h i (suc k)
   pub premium : (j h i k : ℕ) → k < x .names → A x j h i (suc k) ≤ A x j h i k
 
--- The distribution always totals B, and its errors total at most n × i units.
+-- The distribution always totals B, and its errors total at most n × i units. ('Going forward')
 pub record Spread (x : Sheet) : Type 0 where
   pub whole : (i : ℕ) → sumTo (suc (x .names)) (distribution (treeOf x) i) ≡ B
   pub error : (i : ℕ) → errors (treeOf x) i ≤ x .names * i * B ^ i
