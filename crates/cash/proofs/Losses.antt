@@ -46,6 +46,11 @@ pub tranche-loss-none : (lower upper : ℕ) → trancheLoss lower upper 0 ≡ 0
 unfolding trancheLoss
 tranche-loss-none lower upper = omega arith
 
+-- a tranche from 0 on that reaches as far as the loss loses all of it
+pub tranche-loss-whole : (upper x : ℕ) → x ≤ upper → trancheLoss 0 upper x ≡ x
+unfolding trancheLoss
+tranche-loss-whole upper x h = omega arith
+
 -- the loss below the upper point is the tranche's and the loss below the lower one
 loss-between : (lower upper x : ℕ) → lower ≤ upper → trancheLoss lower upper x + min x lower ≡ min x upper
 unfolding trancheLoss

@@ -1,151 +1,95 @@
 -- Laws of a search for an entry over its ceiling. Assumes nothing.
-use Prim.Native.Nat.{ℕ, zero, suc, _+_, _*_, _≤_, _<_}
+use Prim.Native.Nat.{ℕ, zero, suc, _+_, _*_, _/_, _%_, _≤_, _<_}
 use mathlib.Core.Path.{_≡_, refl, ap, sym, _∙_}
 use mathlib.Core.Bool.{Bool, true, false, _||_}
 use mathlib.Core.List.{List}
 use native.Mathlib.Omega.{arith}
-use native.Mathlib.Nat.{mul-le-mul-right, mul-le-mul-left, le-refl, le-step}
 use native.Mathlib.Decide.{ℕ-discrete}
 use lib.ListN.{length, getD, drop}
-use lib.Arith.{digits-lt}
+use lib.Arith.{digits-lt, digits-div, digits-mod}
 use lib.Dec.{ltb}
-use borrow.Author.Tests.{lt-ltb, le-ltb, ltb-false}
+use borrow.Author.Tests.{ltb-false, lt-ltb, le-ltb}
 use Rattle.tree.specs.Sheet.{Sheet, defaultMost, premiumMost, sumOf}
-use Rattle.rows.specs.Tables.{tab, entry, any}
-use Rattle.rows.specs.Rows.{sheetOf, nodeIn, rowOf, anyOver, soiled}
+use Rattle.rows.specs.Tables.{entry, any}
+use Rattle.rows.specs.Rows.{sheetOf, nodeIn, anyOver, soiled}
 use Rattle.rows.specs.Limits.{Limits, Rollable, size, bare}
 use Rattle.rows.specs.declared.Pool.{Pool}
-use Rattle.rows.proofs.Tables.{getD-tab, length-row, node-row}
+use Rattle.rows.proofs.Search.{or-left, or-right, neither, met-left, met-right, any-hit, any-missed, any-none, any-cong}
 use Rattle.rows.proofs.Losses.{loss-width, width-most, ceiling-bare}
-
--- ---- whether a test holds somewhere
-
-or-true : (a : Bool) → (a || true) ≡ true
-or-true true = refl
-or-true false = refl
-
-pub any-true : (n : ℕ) (f : ℕ → Bool) (i : ℕ) → i < n → f i ≡ true → any n f ≡ true
-unfolding any
-any-true zero f i h e = absurd (omega arith)
-any-true (suc n) f i h e = go (ℕ-discrete i n) (any-true n f i)
-  where
-    go : Dec (i ≡ n) → (i < n → f i ≡ true → any n f ≡ true) → (any n f || f n) ≡ true
-    go (yes q) r = ap (λ (b : Bool). any n f || b) (ap f (sym q) ∙ e) ∙ or-true (any n f)
-    go (no q) r = ap (λ (b : Bool). b || f n) (r (omega arith) e)
-
-pub any-false : (n : ℕ) (f : ℕ → Bool) → ((i : ℕ) → i < n → f i ≡ false) → any n f ≡ false
-unfolding any
-any-false zero f h = refl
-any-false (suc n) f h = rw (any-false n f (λ i q. h i (omega arith)), h n (omega arith))
-
-pub any-cong : (n : ℕ) (f g : ℕ → Bool) → ((i : ℕ) → i < n → f i ≡ g i) → any n f ≡ any n g
-unfolding any
-any-cong zero f g h = refl
-any-cong (suc n) f g h = λ t. any-cong n f g (λ i q. h i (le-step q)) t || h n (le-refl (suc n)) t
-
-or-first : (a b : Bool) → (a || b) ≡ false → a ≡ false
-or-first true b e = e
-or-first false b e = refl
-
-or-second : (a b : Bool) → (a || b) ≡ false → b ≡ false
-or-second true b e = cc
-or-second false b e = e
-
--- where it holds nowhere, it does not hold here
-pub any-none : (n : ℕ) (f : ℕ → Bool) → any n f ≡ false → (i : ℕ) → i < n → f i ≡ false
-unfolding any
-any-none zero f e i h = absurd (omega arith)
-any-none (suc n) f e i h = go (ℕ-discrete i n) (any-none n f (or-first (any n f) (f n) e) i)
-  where
-    go : Dec (i ≡ n) → (i < n → f i ≡ false) → f i ≡ false
-    go (yes q) r = ap f q ∙ or-second (any n f) (f n) e
-    go (no q) r = r (omega arith)
 
 -- ---- a search place by place
 
--- No entry of the first so many is over its ceiling.
-pub record Clean (rows ceilings : List ℕ) (n : ℕ) : Type 0 where
-  pub under : (i : ℕ) → i < n → getD rows i 0 ≤ getD ceilings i 0
+-- A test does not hold at any of the first n places, in rows of w counts.
+pub record Clean (w : ℕ) (f : ℕ → ℕ → Bool) (n : ℕ) : Type 0 where
+  pub under : (j k : ℕ) → k < w → j * w + k < n → f j k ≡ false
 
-pub clean-none : (rows ceilings : List ℕ) → Clean rows ceilings 0
-clean-none rows ceilings = record { under = λ i h. absurd (omega arith) }
+pub clean-none : (w : ℕ) (f : ℕ → ℕ → Bool) → Clean w f 0
+clean-none w f = record { under = λ j k h q. absurd (omega arith) }
 
-pub clean-more : (rows ceilings : List ℕ) (n : ℕ) → Clean rows ceilings n → getD rows n 0 ≤ getD ceilings n 0 → Clean rows ceilings (n + 1)
-clean-more rows ceilings n c h = record { under = λ i q. go i q (ℕ-discrete i n) }
+pub clean-more : (w : ℕ) (f : ℕ → ℕ → Bool) (j k n : ℕ) → Clean w f n → n ≡ j * w + k → k < w → f j k ≡ false → Clean w f (n + 1)
+clean-more w f j k n c e h t = record { under = λ i l q p. go i l q p (ℕ-discrete (i * w + l) n) }
   where
-    go : (i : ℕ) → i < n + 1 → Dec (i ≡ n) → getD rows i 0 ≤ getD ceilings i 0
-    go i q (yes e) = rw e h
-    go i q (no e) = c .under i (omega arith)
+    go : (i l : ℕ) → l < w → i * w + l < n + 1 → Dec (i * w + l ≡ n) → f i l ≡ false
+    go i l q p (yes d) =
+        let same : i * w + l ≡ j * w + k = d ∙ e in
+        let i-is : i ≡ j = sym (digits-div i q) ∙ ap (λ y. y / w) same ∙ digits-div j h in
+        let l-is : l ≡ k = sym (digits-mod i q) ∙ ap (λ y. y % w) same ∙ digits-mod j h in
+        rw (i-is, l-is) t
+    go i l q p (no d) = c .under i l q (omega arith)
 
--- Whether an entry of r tranches of w counts is over its ceiling.
-abbrev pub overIn : ℕ → ℕ → List ℕ → List ℕ → Bool
-overIn r w rows ceilings = any r (λ j. any w (λ k. ltb (entry w ceilings j k) (entry w rows j k)))
+pub over-found : (r w : ℕ) (f : ℕ → ℕ → Bool) (j k : ℕ) → j < r → k < w → f j k ≡ true → any r (λ j. any w (f j)) ≡ true
+over-found r w f j k hj hk e = any-hit r (λ j. any w (f j)) j hj (any-hit w (f j) k hk e)
 
-pub over-found : (r w : ℕ) (rows ceilings : List ℕ) (j k place : ℕ) → j < r → k < w → place ≡ j * w + k → getD ceilings place 0 < getD rows place 0 → overIn r w rows ceilings ≡ true
-unfolding entry
-over-found r w rows ceilings j k place hj hk e h = any-true r _ j hj (any-true w _ k hk (lt-ltb _ _ (rw e at h)))
+pub over-none : (r w : ℕ) (f : ℕ → ℕ → Bool) → Clean w f (r * w) → any r (λ j. any w (f j)) ≡ false
+over-none r w f c =
+    any-missed r (λ j. any w (f j))
+    (λ j hj. any-missed w (f j) (λ k hk. c .under j k hk (digits-lt {q = j} {m = r} {r = k} {c = w} hj hk)))
 
-pub over-none : (r w : ℕ) (rows ceilings : List ℕ) → Clean rows ceilings (r * w) → overIn r w rows ceilings ≡ false
-unfolding entry
-over-none r w rows ceilings c =
-    any-false r _ (λ j hj. any-false w _ (λ k hk. le-ltb _ _ (c .under (j * w + k) (digits-lt {q = j} {m = r} {r = k} {c = w} hj hk))))
+-- ---- what the search asks at a place
 
--- a count and a tranche are among the places
-pub counts-most : (r n : ℕ) → suc n ≤ suc r * suc n
-counts-most r n =
-    let a : 1 * suc n ≤ suc r * suc n = mul-le-mul-right (suc n) (omega arith) in
-    omega arith
+-- Whether one of the two legs is over its ceiling.
+abbrev pub overAt : Sheet → ℕ → List ℕ → List ℕ → ℕ → ℕ → Bool
+overAt x most d p j k = ltb (defaultMost x j k) (entry (suc (x .names)) d j k) || ltb most (entry (suc (x .names)) p j k)
 
-pub tranches-most : (r n : ℕ) → suc r ≤ suc r * suc n
-tranches-most r n =
-    let a : suc r * 1 ≤ suc r * suc n = mul-le-mul-left (suc r) (omega arith) in
-    omega arith
+module _ (x : Sheet) (most : ℕ) (d p : List ℕ) (j k place : ℕ) (place-is : place ≡ j * suc (x .names) + k) where
+  pub over-default : (left : ℕ) → left ≡ defaultMost x j k → left < getD d place 0 → overAt x most d p j k ≡ true
+  unfolding entry
+  over-default left e h = met-left (ltb (defaultMost x j k) (entry (suc (x .names)) d j k)) (ltb most (entry (suc (x .names)) p j k)) (lt-ltb _ _ (rw (e, place-is) at h))
 
--- ---- a search through a table of ceilings is the search over the rule
+  pub over-premium : most < getD p place 0 → overAt x most d p j k ≡ true
+  unfolding entry
+  over-premium h = met-right (ltb (defaultMost x j k) (entry (suc (x .names)) d j k)) (ltb most (entry (suc (x .names)) p j k)) (lt-ltb _ _ (rw place-is at h))
 
-pub over-by : (x : Sheet) (most : ℕ → ℕ → ℕ) (rows ceilings : List ℕ) → ((j k : ℕ) → j ≤ x .tranches → k ≤ x .names → nodeIn x ceilings j k ≡ most j k)
-    → overIn (suc (x .tranches)) (suc (x .names)) rows ceilings ≡ anyOver x most rows
-unfolding anyOver nodeIn
-over-by x most rows ceilings h =
-    any-cong (suc (x .tranches)) _ _
-    (λ j p. any-cong (suc (x .names)) _ _ (λ k q. ap (λ y. ltb y (nodeIn x rows j k)) (h j k (omega arith) (omega arith))))
+  pub under-both : (left : ℕ) → left ≡ defaultMost x j k → getD d place 0 ≤ left → getD p place 0 ≤ most → overAt x most d p j k ≡ false
+  unfolding entry
+  under-both left e h q = neither (ltb (defaultMost x j k) (entry (suc (x .names)) d j k)) (ltb most (entry (suc (x .names)) p j k)) (le-ltb _ _ (rw (e, place-is) at h)) (le-ltb _ _ (rw place-is at q))
 
--- the same ceiling everywhere
-pub filled-node : (x : Sheet) (ceilings : List ℕ) (n most : ℕ) → n ≡ size x → ceilings ≡ tab n (λ i. most) → (j k : ℕ) → j ≤ x .tranches → k ≤ x .names → nodeIn x ceilings j k ≡ most
-unfolding nodeIn entry
-filled-node x ceilings n most long e j k p q =
-    ap (λ (l : List ℕ). getD l (j * suc (x .names) + k) 0) e
-    ∙ getD-tab n (λ i. most) (j * suc (x .names) + k) (omega (arith, digits-lt {q = j} {m = suc (x .tranches)} {r = k} {c = suc (x .names)} (omega arith) (omega arith)))
+-- ---- one search of both rows is a search of each
 
--- the search of the default row, and what it says of both
-module _ (pool : Pool) (attachments hazards discounts accruals d p : List ℕ) (i : ℕ) (ceilings : List ℕ) (found : Bool)
-    (table : ceilings ≡ rowOf (bare pool attachments) (defaultMost (bare pool attachments)))
-    (search-is : found ≡ overIn (suc (pool .tranches)) (suc (pool .names)) d ceilings) where
-  abbrev x : Sheet
-  x = sheetOf pool attachments hazards discounts accruals
+or-swap : (a b c d : Bool) → ((a || b) || (c || d)) ≡ ((a || c) || (b || d))
+or-swap true b c d = refl
+or-swap false true c d = sym (met-right c true refl)
+or-swap false false c d = refl
 
-  found-is : found ≡ anyOver x (defaultMost x) d
-  unfolding nodeIn rowOf
-  found-is =
-      search-is
-      ∙ over-by x (defaultMost x) d ceilings
-      (λ j k u v.
-      ap (λ (l : List ℕ). nodeIn x l j k) (table ∙ ap (rowOf (bare pool attachments)) (ceiling-bare pool attachments hazards discounts accruals))
-      ∙ node-row x (defaultMost x) j k u v)
+any-or : (n : ℕ) (f g : ℕ → Bool) → any n (λ i. f i || g i) ≡ (any n f || any n g)
+unfolding any
+any-or zero f g = refl
+any-or (suc n) f g = ap (λ (b : Bool). b || (f n || g n)) (any-or n f g) ∙ or-swap (any n f) (any n g) (f n) (g n)
 
-  pub soiled-first : found ≡ true → true ≡ soiled x i d p
-  unfolding soiled
-  soiled-first e = let f : anyOver x (defaultMost x) d ≡ true = sym found-is ∙ e in rw f
-
-  pub soiled-second : found ≡ false → (most : ℕ) (filled : List ℕ) (r : Bool) → most ≡ sumOf (drop i accruals) → filled ≡ tab (length ceilings) (λ k. most)
-      → r ≡ overIn (suc (pool .tranches)) (suc (pool .names)) p filled → r ≡ soiled x i d p
-  unfolding soiled premiumMost
-  soiled-second e most filled r most-is table-is q =
-      let long : length ceilings ≡ size x = ap length table ∙ length-row (bare pool attachments) _ in
-      let f : anyOver x (defaultMost x) d ≡ false = sym found-is ∙ e in
-      q
-      ∙ over-by x (λ j k. premiumMost x i k) p filled (λ j k u v. filled-node x filled (length ceilings) most long table-is j k u v ∙ most-is)
-      ∙ sym (rw f)
+-- What the search finds is that the rows are soiled.
+pub soiled-is : (pool : Pool) (attachments hazards discounts accruals d p : List ℕ) (i most : ℕ) → most ≡ sumOf (drop i accruals) →
+    any (suc (pool .tranches)) (λ j. any (suc (pool .names)) (λ k. overAt (bare pool attachments) most d p j k))
+    ≡ soiled (sheetOf pool attachments hazards discounts accruals) i d p
+unfolding soiled anyOver nodeIn premiumMost
+soiled-is pool attachments hazards discounts accruals d p i most e =
+    let x : Sheet = sheetOf pool attachments hazards discounts accruals in
+    let r : ℕ = suc (pool .tranches) in
+    let w : ℕ = suc (pool .names) in
+    (λ t.
+    any r (λ j.
+    any w (λ k. ltb (ceiling-bare pool attachments hazards discounts accruals t j k) (entry w d j k) || ltb (e t) (entry w p j k))))
+    ∙ any-cong r _ _ (λ j h. any-or w (λ k. ltb (defaultMost x j k) (entry w d j k)) (λ k. ltb (sumOf (drop i accruals)) (entry w p j k)))
+    ∙ any-or r (λ j. any w (λ k. ltb (defaultMost x j k) (entry w d j k))) (λ j. any w (λ k. ltb (sumOf (drop i accruals)) (entry w p j k)))
 
 -- ---- rows that keep to their ceilings can be walked back
 
@@ -165,6 +109,6 @@ unsoiled-rollable x d p position count l dl pl a b e =
       defaults-long = dl;
       premiums-long = pl;
       defaults-most = λ j k u v.
-          omega (arith, none-over x (defaultMost x) d (or-first (anyOver x (defaultMost x) d) (anyOver x (λ j k. premiumMost x position k) p) e) j k u v, loss-width x j k v, width-most x (l .within .attachment-most) j);
-      premiums-most = λ j k u v. omega (arith, none-over x (λ j k. premiumMost x position k) p (or-second (anyOver x (defaultMost x) d) (anyOver x (λ j k. premiumMost x position k) p) e) j k u v);
+          omega (arith, none-over x (defaultMost x) d (or-left (anyOver x (defaultMost x) d) (anyOver x (λ j k. premiumMost x position k) p) e) j k u v, loss-width x j k v, width-most x (l .within .attachment-most) j);
+      premiums-most = λ j k u v. omega (arith, none-over x (λ j k. premiumMost x position k) p (or-right (anyOver x (defaultMost x) d) (anyOver x (λ j k. premiumMost x position k) p) e) j k u v);
     }

@@ -1,6 +1,7 @@
 -- A walk back between two of its steps. Assumes nothing.
 use Prim.Native.Nat.{ℕ, suc, _+_, _-_, _*_, _≤_, _<_}
 use mathlib.Core.Path.{_≡_, refl, ap, sym, _∙_}
+use mathlib.Core.Bool.{cond}
 use mathlib.Core.List.{List}
 use native.Mathlib.Omega.{arith}
 use native.Mathlib.Numerals.{add-one}
@@ -9,36 +10,39 @@ use Rattle.cash.specs.Units.{B}
 use Rattle.tree.specs.Sheet.{Sheet, outstandingOf, defaultOf, premiumOf}
 use Rattle.rows.specs.Tables.{tab, grid}
 use Rattle.rows.specs.Rows.{rowOf, sheetOf, rolled, rolledBack}
-use Rattle.rows.specs.Kernels.{rolledIn, accruedAt, paymentOf, RowsFit}
+use Rattle.rows.specs.Kernels.{rolledIn, accruedAt, paymentOf, dueIn, RowsFit}
 use Rattle.rows.specs.Limits.{Rollable, size, bare}
 use Rattle.rows.specs.declared.Pool.{Pool}
-use Rattle.rows.proofs.Tables.{length-row}
 use Rattle.rows.proofs.Losses.{payment-bare, outstanding-bare}
-use Rattle.rows.proofs.Turns.{default-turn, premium-turn, defaults-fit, premiums-fit, premiums-low, outstandings-low, rollable-back}
+use Rattle.rows.proofs.Turns.{default-turn, premium-turn, defaults-fit, premiums-fit, premiums-low, rollable-back}
+use Rattle.rows.proofs.Due.{Left, left-filled, accrued-left}
 
 -- After `done` of the steps from the rows d and p the rows are ds and ps.
 pub record Going (x : Sheet) (d p : List ℕ) (position count : ℕ) (paid left none ds ps : List ℕ) (done : ℕ) : Type 0 where
   pub ready : Rollable x d p position count
   pub paid-is : paid ≡ rowOf x (paymentOf x)
-  pub left-is : left ≡ rowOf x (outstandingOf x)
+  pub left-is : Left x position count left
   pub none-long : length none ≡ size x
   pub none-zero : (n : ℕ) → getD none n 0 ≡ 0
   pub most : done ≤ count
   pub defaults : ds ≡ rolledBack x (defaultOf x) position done d
   pub premiums : ps ≡ rolledBack x (premiumOf x) position done p
 
-pub going-start : (pool : Pool) (attachments hazards discounts accruals d p paid left none : List ℕ) (position count : ℕ)
+pub going-start : (pool : Pool) (attachments hazards discounts accruals d p paid left before none : List ℕ) (position count : ℕ)
     → Rollable (sheetOf pool attachments hazards discounts accruals) d p position count
     → paid ≡ rowOf (bare pool attachments) (paymentOf (bare pool attachments))
-    → left ≡ rowOf (bare pool attachments) (outstandingOf (bare pool attachments))
+    → left ≡ cond (dueIn accruals position count) (rowOf (bare pool attachments) (outstandingOf (bare pool attachments))) before
+    → length before ≡ size (bare pool attachments) → ((n : ℕ) → getD before n 0 ≡ 0)
     → length none ≡ size (bare pool attachments) → ((n : ℕ) → getD none n 0 ≡ 0)
     → Going (sheetOf pool attachments hazards discounts accruals) d p position count paid left none d p 0
 unfolding rolledBack rowOf
-going-start pool attachments hazards discounts accruals d p paid left none position count r e f z n =
+going-start pool attachments hazards discounts accruals d p paid left before none position count r e f b o z n =
     record {
       ready = r;
       paid-is = e ∙ ap (rowOf (bare pool attachments)) (payment-bare pool attachments hazards discounts accruals);
-      left-is = f ∙ ap (rowOf (bare pool attachments)) (outstanding-bare pool attachments hazards discounts accruals);
+      left-is =
+          left-filled (sheetOf pool attachments hazards discounts accruals) (r .limits) position count left before b o
+          (f ∙ ap (λ (g : ℕ → ℕ → ℕ). cond (dueIn accruals position count) (rowOf (bare pool attachments) g) before) (outstanding-bare pool attachments hazards discounts accruals));
       none-long = z;
       none-zero = n;
       most = omega arith;
@@ -71,10 +75,15 @@ module _ {x : Sheet} {d p : List ℕ} {position count : ℕ} {paid left none ds 
     roll-fits = defaults-fit x (g .ready .limits) i inside ds paid (next-rollable .defaults-long) (next-rollable .defaults-most) (g .paid-is)
 
     pub left-long : length left ≡ length ps
-    left-long = ap length (g .left-is) ∙ length-row x _ ∙ sym (next-rollable .premiums-long)
+    left-long = g .left-is .long ∙ sym (next-rollable .premiums-long)
 
     pub left-low : (n : ℕ) → n < length ps → getD left n 0 ≤ B
-    left-low n h = outstandings-low x (g .ready .limits) i inside left (g .left-is) n (rw (next-rollable .premiums-long) at h)
+    left-low n h = g .left-is .low n (rw (next-rollable .premiums-long) at h)
+
+    -- the premium added is that of what is outstanding
+    accrued-is : (es : List ℕ) → es ≡ tab (length ps) (accruedAt (getD (x .accruals) i 0) left ps)
+        → es ≡ tab (length ps) (accruedAt (getD (x .accruals) i 0) (rowOf x (outstandingOf x)) ps)
+    accrued-is es e = accrued-left x position count left (g .left-is) done i more i-is ps es (next-rollable .premiums-long) e
 
     pub premium-low : (n : ℕ) → n < length ps → getD ps n 0 ≤ 18 * B
     premium-low = premiums-low x (g .ready .limits) i inside ps (next-rollable .premiums-long) (next-rollable .premiums-most)
@@ -82,7 +91,7 @@ module _ {x : Sheet} {d p : List ℕ} {position count : ℕ} {paid left none ds 
     pub accrued-fits : (es : List ℕ) → es ≡ tab (length ps) (accruedAt (getD (x .accruals) i 0) left ps)
         → RowsFit (suc (x .tranches)) (x .names) es (x .hazards) (getD (x .discounts) i 0) none
     accrued-fits es e =
-        premiums-fit x (g .ready .limits) i inside ps left es none (next-rollable .premiums-long) (next-rollable .premiums-most) (g .left-is) (g .none-long) (g .none-zero) e
+        premiums-fit x (g .ready .limits) i inside ps (rowOf x (outstandingOf x)) es none (next-rollable .premiums-long) (next-rollable .premiums-most) refl (g .none-long) (g .none-zero) (accrued-is es e)
 
     pub going-more : (ds' es ps' : List ℕ)
         → ds' ≡ grid (suc (x .tranches)) (suc (x .names)) (rolledIn (suc (x .names)) (x .hazards) (getD (x .discounts) i 0) paid ds)
@@ -104,7 +113,7 @@ module _ {x : Sheet} {d p : List ℕ} {position count : ℕ} {paid left none ds 
               (default-turn x (g .ready .limits) i ds paid ds' (g .paid-is) e ∙ (λ t. rolled x (defaultOf x) (s t) (g .defaults t)));
           premiums =
               rw (add-one done)
-              (premium-turn x (g .ready .limits) i ps left es none ps' (next-rollable .premiums-long) (g .left-is) (g .none-zero) f q
+              (premium-turn x (g .ready .limits) i ps (rowOf x (outstandingOf x)) es none ps' (next-rollable .premiums-long) refl (g .none-zero) (accrued-is es f) q
               ∙ (λ t. rolled x (premiumOf x) (s t) (g .premiums t)));
         }
 

@@ -1,9 +1,12 @@
 pub mod Tables
+pub mod Search
 pub mod Sweep
 pub mod Nodes
 pub mod Parts
 pub mod Rolls
 pub mod Losses
+pub mod Shares
+pub mod Due
 pub mod Rolled
 pub mod Sums
 pub mod Turns

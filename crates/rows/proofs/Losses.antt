@@ -1,21 +1,22 @@
 -- Laws of losses, widths and what is outstanding, on a sheet. Assumes nothing.
 use Prim.Native.Nat.{ℕ, suc, _+_, _-_, _≤_, _<_}
-use mathlib.Core.Path.{_≡_, refl, ap, sym, _∙_}
+use mathlib.Core.Path.{_≡_, refl, ap, ap₂, sym, _∙_}
 use mathlib.Core.List.{List}
 use native.Mathlib.Nat.{le-of-lt}
 use native.Mathlib.Numerals.{add-one}
 use native.Mathlib.Omega.{arith}
 use native.Mathlib.Decide.{decLt}
-use lib.ListN.{getD}
+use lib.ListN.{length, getD}
 use borrow.Author.Tests.{lt-ltb, le-ltb}
 use Rattle.cash.specs.Units.{B}
 use Rattle.cash.specs.Losses.{poolLoss, trancheLoss, trancheOutstanding, indexOutstanding, defaultPayment}
-use Rattle.cash.proofs.Losses.{pool-loss-rises, pool-loss-most, tranche-loss-rises, tranche-loss-most, outstanding-most, index-outstanding-most}
+use Rattle.cash.proofs.Losses.{pool-loss-rises, pool-loss-most, tranche-loss-rises, tranche-loss-most, tranche-loss-whole, outstanding-most, index-outstanding-most}
 use Rattle.tree.specs.Sheet.{Sheet, poolLossOf, lossOf, widthOf, outstandingOf, defaultMost}
 use Rattle.rows.specs.Rows.{sheetOf}
-use Rattle.rows.specs.Kernels.{paymentOf}
+use Rattle.rows.specs.Kernels.{poolLosses, lowerOf, upperOf, paymentOf}
 use Rattle.rows.specs.Limits.{Limits, Tranched, bare}
 use Rattle.rows.specs.declared.Pool.{Pool}
+use Rattle.rows.proofs.Tables.{length-tab, getD-tab}
 
 -- ---- a tranche, and the index
 
@@ -95,6 +96,79 @@ outstanding-low x most j k = go (decLt j (x .tranches))
     go : Dec (j < x .tranches) → outstandingOf x j k ≤ B
     go (yes h) = rw (outstanding-tranche x j k h) (outstanding-most _ _ _ (most (suc j)))
     go (no h) = rw (outstanding-index x j k (omega arith)) (index-outstanding-most (x .names) k)
+
+-- ---- the table of losses
+
+pub losses-long : (names recovery : ℕ) → length (poolLosses names recovery) ≡ suc names
+unfolding poolLosses
+losses-long names recovery = length-tab _ _
+
+pub losses-at : (names recovery k : ℕ) → k ≤ names → getD (poolLosses names recovery) k 0 ≡ poolLoss names recovery k
+unfolding poolLosses
+losses-at names recovery k h = getD-tab (suc names) (poolLoss names recovery) k (omega arith)
+
+-- ---- the points of a tranche, and of the index
+
+pub lower-tranche : (x : Sheet) (j : ℕ) → j < x .tranches → lowerOf x j ≡ getD (x .attachments) j 0
+unfolding lowerOf
+lower-tranche x j h = rw (lt-ltb j (x .tranches) h)
+
+pub lower-index : (x : Sheet) (j : ℕ) → x .tranches ≤ j → lowerOf x j ≡ 0
+unfolding lowerOf
+lower-index x j h = rw (le-ltb j (x .tranches) h)
+
+pub upper-tranche : (x : Sheet) (j : ℕ) → j < x .tranches → upperOf x j ≡ getD (x .attachments) (suc j) 0
+unfolding upperOf
+upper-tranche x j h = rw (lt-ltb j (x .tranches) h)
+
+pub upper-index : (x : Sheet) (j : ℕ) → x .tranches ≤ j → upperOf x j ≡ B - x .recovery
+unfolding upperOf
+upper-index x j h = rw (le-ltb j (x .tranches) h)
+
+pub points-rise : (x : Sheet) → Tranched x → (j : ℕ) → lowerOf x j ≤ upperOf x j
+points-rise x t j = go (decLt j (x .tranches))
+  where
+    go : Dec (j < x .tranches) → lowerOf x j ≤ upperOf x j
+    go (yes h) = rw (lower-tranche x j h, upper-tranche x j h) (le-of-lt (t .attachments-rise j h))
+    go (no h) = omega (arith, lower-index x j (omega arith))
+
+pub width-between : (x : Sheet) (j : ℕ) → widthOf x j ≡ upperOf x j - lowerOf x j
+width-between x j = go (decLt j (x .tranches))
+  where
+    go : Dec (j < x .tranches) → widthOf x j ≡ upperOf x j - lowerOf x j
+    go (yes h) = rw (lower-tranche x j h, upper-tranche x j h) (width-tranche x j h)
+    go (no h) = omega (arith, lower-index x j (omega arith), upper-index x j (omega arith), width-index x j (omega arith))
+
+pub loss-between : (x : Sheet) (j k : ℕ) → k ≤ x .names → trancheLoss (lowerOf x j) (upperOf x j) (poolLoss (x .names) (x .recovery) k) ≡ lossOf x j k
+loss-between x j k q = go (decLt j (x .tranches))
+  where
+    go : Dec (j < x .tranches) → trancheLoss (lowerOf x j) (upperOf x j) (poolLoss (x .names) (x .recovery) k) ≡ lossOf x j k
+    go (yes h) = rw (lower-tranche x j h, upper-tranche x j h) (sym (loss-tranche x j k h))
+    go (no h) =
+        let low : lowerOf x j ≡ 0 = lower-index x j (omega arith) in
+        let high : upperOf x j ≡ B - x .recovery = upper-index x j (omega arith) in
+        rw (low, high) (tranche-loss-whole (B - x .recovery) (poolLoss (x .names) (x .recovery) k) (pool-loss-most (x .names) (x .recovery) k q) ∙ sym (loss-index x j k (omega arith)))
+
+-- as the code has it, from the table
+pub loss-read : (x : Sheet) (j k lower upper r : ℕ) (losses : List ℕ) → k ≤ x .names → lower ≡ lowerOf x j → upper ≡ upperOf x j → losses ≡ poolLosses (x .names) (x .recovery)
+    → r ≡ trancheLoss lower upper (getD losses k 0) → r ≡ lossOf x j k
+loss-read x j k lower upper r losses q a b e h =
+    h
+    ∙ (λ t. trancheLoss (a t) (b t) (getD (e t) k 0))
+    ∙ ap (trancheLoss (lowerOf x j) (upperOf x j)) (losses-at (x .names) (x .recovery) k q)
+    ∙ loss-between x j k q
+
+pub ceiling-between : (x : Sheet) (j k : ℕ) → k ≤ x .names → trancheOutstanding (lowerOf x j) (upperOf x j) (poolLoss (x .names) (x .recovery) k) ≡ defaultMost x j k
+unfolding trancheOutstanding defaultMost
+ceiling-between x j k q = ap₂ (λ a b. a - b) (sym (width-between x j)) (loss-between x j k q)
+
+pub ceiling-read : (x : Sheet) (j k lower upper r : ℕ) (losses : List ℕ) → k ≤ x .names → lower ≡ lowerOf x j → upper ≡ upperOf x j → losses ≡ poolLosses (x .names) (x .recovery)
+    → r ≡ trancheOutstanding lower upper (getD losses k 0) → r ≡ defaultMost x j k
+ceiling-read x j k lower upper r losses q a b e h =
+    h
+    ∙ (λ t. trancheOutstanding (a t) (b t) (getD (e t) k 0))
+    ∙ ap (trancheOutstanding (lowerOf x j) (upperOf x j)) (losses-at (x .names) (x .recovery) k q)
+    ∙ ceiling-between x j k q
 
 -- ---- what a default pays
 

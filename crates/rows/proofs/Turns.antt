@@ -173,11 +173,11 @@ module _ (x : Sheet) (l : Limits x) (i : ℕ) (inside : i < x .steps) where
       every (λ y. y ≤ 18 * B) (suc (x .tranches)) (suc (x .names)) row (omega arith)
       (λ j k p q. omega (arith, low j k (omega arith) (omega arith), sum-drop-most (suc i) (x .accruals), l .accruals-most)) n (rw long at h)
 
-  pub outstandings-low : (out : List ℕ) → out ≡ rowOf x (outstandingOf x) → (n : ℕ) → n < size x → getD out n 0 ≤ B
-  unfolding nodeIn
-  outstandings-low out o n h =
-      every (λ y. y ≤ B) (suc (x .tranches)) (suc (x .names)) out (omega arith)
-      (λ j k p q. rw (o, node-row x (outstandingOf x) j k (omega arith) (omega arith)) (outstanding-low x (l .within .attachment-most) j k)) n h
+pub outstandings-low : (x : Sheet) → Limits x → (out : List ℕ) → out ≡ rowOf x (outstandingOf x) → (n : ℕ) → n < size x → getD out n 0 ≤ B
+unfolding nodeIn
+outstandings-low x l out o n h =
+    every (λ y. y ≤ B) (suc (x .tranches)) (suc (x .names)) out (omega arith)
+    (λ j k p q. rw (o, node-row x (outstandingOf x) j k (omega arith) (omega arith)) (outstanding-low x (l .within .attachment-most) j k)) n h
 
 -- ---- a walk keeps its rows so that they can be walked on
 

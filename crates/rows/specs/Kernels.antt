@@ -1,15 +1,15 @@
 -- What the row functions do, on plain lists, and what keeps each within 64 bits (document 01, 'Walking back').
-use Prim.Native.Nat.{ℕ, suc, _+_, _*_, _≤_, _<_}
+use Prim.Native.Nat.{ℕ, suc, _+_, _-_, _*_, _≤_, _<_}
 use mathlib.Core.Path.{_≡_}
-use mathlib.Core.Bool.{cond}
+use mathlib.Core.Bool.{Bool, cond, not}
 use mathlib.Core.List.{List}
 use lib.ListN.{length, getD}
-use lib.Dec.{ltb}
+use lib.Dec.{ltb, eqb}
 use Rattle.cash.specs.Units.{B}
-use Rattle.cash.specs.Losses.{defaultPayment, premiumPayment}
+use Rattle.cash.specs.Losses.{poolLoss, defaultPayment, premiumPayment}
 use Rattle.tree.specs.Backward.{rollNode}
 use Rattle.tree.specs.Sheet.{Sheet, lossOf}
-use Rattle.rows.specs.Tables.{entry}
+use Rattle.rows.specs.Tables.{tab, entry, any}
 
 -- One count of a tranche's row one step back; hazards and default cash stand by count.
 unfoldable pub rolledAt : List ℕ → ℕ → List ℕ → List ℕ → ℕ → ℕ
@@ -24,9 +24,24 @@ rolledIn w hazards discount cash rows j k =
 unfoldable pub accruedAt : ℕ → List ℕ → List ℕ → ℕ → ℕ
 accruedAt accrual outstandings rows i = getD rows i 0 + premiumPayment accrual (getD outstandings i 0)
 
--- What a default from the count k takes from tranche j. None comes from the last count. ('Arithmetic and cash')
+-- L(k) by count. ('Arithmetic and cash', as the three below)
+unfoldable pub poolLosses : ℕ → ℕ → List ℕ
+poolLosses names recovery = tab (suc names) (poolLoss names recovery)
+
+-- The points between which the pool's loss is tranche j's; the index has all of it.
+unfoldable pub lowerOf : Sheet → ℕ → ℕ
+lowerOf x j = cond (ltb j (x .tranches)) (getD (x .attachments) j 0) 0
+
+unfoldable pub upperOf : Sheet → ℕ → ℕ
+upperOf x j = cond (ltb j (x .tranches)) (getD (x .attachments) (suc j) 0) (B - x .recovery)
+
+-- What a default from the count k takes from tranche j. None comes from the last count.
 unfoldable pub paymentOf : Sheet → ℕ → ℕ → ℕ
 paymentOf x j k = cond (ltb k (x .names)) (defaultPayment (lossOf x j k) (lossOf x j (suc k))) 0
+
+-- Whether a premium date is among the c steps before step i. An accrual that is not 0 marks one. ('Sheet and units')
+unfoldable pub dueIn : List ℕ → ℕ → ℕ → Bool
+dueIn accruals i c = any c (λ d. not (eqb (getD accruals (i - suc d) 0) 0))
 
 -- A row that one step back keeps within 64 bits.
 pub record RowFits (row hazards : List ℕ) (discount : ℕ) (cash : List ℕ) : Type 0 where

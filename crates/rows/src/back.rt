@@ -1,17 +1,18 @@
 // A walk back by some steps, with tables that the caller lends.
 ghost use mathlib.Core.Path.{_≡_};
-ghost use Prim.Native.Nat.{ℕ};
+ghost use Prim.Native.Nat.{ℕ, suc};
 ghost use lib.ListN.{length, getD};
 ghost use Rattle.tree.specs.Sheet.{defaultOf, premiumOf};
 ghost use Rattle.rows.specs.Rows.{sheetOf, rolledBack};
 ghost use Rattle.rows.specs.Limits.{Rollable, bare, size};
 use crate::Pool;
-use crate::figures::outstandings;
+use crate::figures::outstandings_due;
 use crate::figures::payments;
+use crate::figures::pool_losses;
 use crate::step::accrue;
 use crate::step::roll_all;
 
-// Fills the tables of payments and of what is outstanding, and takes both rows so many steps back. The premium leg has no default cash: `none` holds zeros.
+// Fills the tables of losses, of payments and, if a premium date is met, of what is outstanding, and takes both rows so many steps back. The premium leg has no default cash: `none` holds zeros.
 pub fn walk_with_tables(
     pool: Pool,
     attachments: &[u64],
@@ -22,18 +23,21 @@ pub fn walk_with_tables(
     premiums: &mut [u64],
     position: usize,
     count: usize,
+    losses: &mut [u64],
     paid: &mut [u64],
     left: &mut [u64],
     none: &[u64],
 )
     requires { ⌜ Rollable (sheetOf pool (now attachments) (now hazards) (now discounts) (now accruals)) (now defaults) (now premiums) position count ⌝ }
-    requires { ⌜ (length (now paid) ≡ size (bare pool (now attachments))) × (length (now left) ≡ size (bare pool (now attachments))) ⌝ }
+    requires { ⌜ (length (now losses) ≡ suc (pool .names)) × (length (now paid) ≡ size (bare pool (now attachments))) ⌝ }
+    requires { ⌜ (length (now left) ≡ size (bare pool (now attachments))) × ((i : ℕ) → getD (now left) i 0 ≡ 0) ⌝ }
     requires { ⌜ (length (now none) ≡ size (bare pool (now attachments))) × ((i : ℕ) → getD (now none) i 0 ≡ 0) ⌝ }
     ensures { λ _. ⌜ now (defaults .exit) ≡ rolledBack (sheetOf pool (now (attachments .entry)) (now (hazards .entry)) (now (discounts .entry)) (now (accruals .entry))) (defaultOf (sheetOf pool (now (attachments .entry)) (now (hazards .entry)) (now (discounts .entry)) (now (accruals .entry)))) position count (now (defaults .entry)) ⌝ }
     ensures { λ _. ⌜ now (premiums .exit) ≡ rolledBack (sheetOf pool (now (attachments .entry)) (now (hazards .entry)) (now (discounts .entry)) (now (accruals .entry))) (premiumOf (sheetOf pool (now (attachments .entry)) (now (hazards .entry)) (now (discounts .entry)) (now (accruals .entry)))) position count (now (premiums .entry)) ⌝ }
 {
-    payments(pool, attachments, paid);
-    outstandings(pool, attachments, left);
+    pool_losses(pool.names, pool.recovery, losses);
+    payments(pool, attachments, losses, paid);
+    outstandings_due(pool, attachments, accruals, position, count, left);
     let mut done = 0;
     while done < count {
         done += 1;

@@ -34,6 +34,7 @@ pub fn walk_back(
     ensures { λ _. ⌜ now (premiums .exit) ≡ rolledBack (sheetOf pool (now (attachments .entry)) (now (hazards .entry)) (now (discounts .entry)) (now (accruals .entry))) (premiumOf (sheetOf pool (now (attachments .entry)) (now (hazards .entry)) (now (discounts .entry)) (now (accruals .entry)))) position count (now (premiums .entry)) ⌝ }
 {
     // 9 rows of 126 counts, as many as a sheet can have
+    let mut losses = [0u64; 126];
     let mut paid = [0u64; 1134];
     let mut left = [0u64; 1134];
     let none = [0u64; 1134];
@@ -48,6 +49,7 @@ pub fn walk_back(
         premiums,
         position,
         count,
+        &mut losses[..pool.names + 1],
         &mut paid[..size],
         &mut left[..size],
         &none[..size],

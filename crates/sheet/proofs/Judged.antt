@@ -4,10 +4,10 @@ use mathlib.Core.Path.{_≡_, refl, sym, ap}
 use mathlib.Core.Bool.{Bool, true, false, not, _||_}
 use mathlib.Core.Logic.{_↔_, _⊎_, inl, inr, ⊎-elim}
 use native.Mathlib.Omega.{arith}
-use native.Mathlib.Decide.{ℕ-discrete}
 use lib.Dec.{ltb, leb, eqb}
 use borrow.Author.Tests.{ltb-false, leb-false, eqb-true, eqb-false, not-false, le-ltb, lt-leb, eq-eqb, ne-eqb}
 use Rattle.rows.specs.Tables.{any}
+use Rattle.rows.proofs.Search.{or-left, or-right, neither, any-missed, any-none}
 use Rattle.sheet.specs.Tests.{outside, differs}
 
 -- The proposition holds and the test is false, or it does not hold and the test is true.
@@ -31,24 +31,6 @@ kept m k = sym (m .1 k)
 pub broken : {b : Bool} {K : Type 0} → (b ≡ false) ↔ K → ¬ K → true ≡ b
 broken m n = ⊎-elim (λ j. absurd (n (j .0))) (λ j. sym (j .1)) (judged m)
 
-pub or-left : (a b : Bool) → (a || b) ≡ false → a ≡ false
-or-left true b e = e
-or-left false b e = refl
-
-pub or-right : (a b : Bool) → (a || b) ≡ false → b ≡ false
-or-right true b e = absurd (never e)
-or-right false b e = e
-
-pub neither : (a b : Bool) → a ≡ false → b ≡ false → (a || b) ≡ false
-neither a b p q = rw (p, q)
-
-pub met-left : (a b : Bool) → a ≡ true → (a || b) ≡ true
-met-left a b p = rw p
-
-pub met-right : (a b : Bool) → b ≡ true → (a || b) ≡ true
-met-right true b p = refl
-met-right false b p = p
-
 pub or-fine : {a b : Bool} {P Q : Type 0} → (a ≡ false) ↔ P → (b ≡ false) ↔ Q → ((a || b) ≡ false) ↔ (P × Q)
 or-fine {a} {b} p q = (λ e. (p .0 (or-left a b e), q .0 (or-right a b e)), λ m. neither a b (p .1 (m .0)) (q .1 (m .1)))
 
@@ -67,28 +49,6 @@ differs-fine a b = (λ e. eqb-true a b (not-false (eqb a b) e), λ e. ap not (eq
 pub some-fine : (a : ℕ) → (eqb a 0 ≡ false) ↔ (1 ≤ a)
 some-fine a = (λ e. let n : a ≡ 0 → ⊥ = eqb-false a 0 e in omega arith, λ h. ne-eqb a 0 (λ e. omega arith))
 
--- A test at each of the first n numbers.
-pub any-hit : (n : ℕ) (f : ℕ → Bool) (i : ℕ) → i < n → f i ≡ true → any n f ≡ true
-unfolding any
-any-hit zero f i h e = absurd (omega arith)
-any-hit (suc n) f i h e = go (ℕ-discrete i n) (any-hit n f i)
-  where
-    go : Dec (i ≡ n) → (i < n → f i ≡ true → any n f ≡ true) → (any n f || f n) ≡ true
-    go (yes q) r = met-right (any n f) (f n) (rw q at e)
-    go (no q) r = rw (r (omega arith) e)
-
-pub any-missed : (n : ℕ) (f : ℕ → Bool) → ((i : ℕ) → i < n → f i ≡ false) → any n f ≡ false
-unfolding any
-any-missed zero f h = refl
-any-missed (suc n) f h = neither (any n f) (f n) (any-missed n f (λ i q. h i (omega arith))) (h n (omega arith))
-
-pub any-false : (n : ℕ) (f : ℕ → Bool) → any n f ≡ false → (i : ℕ) → i < n → f i ≡ false
-any-false n f e i h = go (f i) refl
-  where
-    go : (b : Bool) → f i ≡ b → f i ≡ false
-    go false p = p
-    go true p = absurd (never (let z : true ≡ false = cc (any-hit n f i h p) in z))
-
 -- If a test at a number is false just where P holds there, then no test of the first n is met just where P holds at each of them.
 pub any-fine : (n : ℕ) {f : ℕ → Bool} {P : ℕ → Type 0} → ((i : ℕ) → (f i ≡ false) ↔ P i) → (any n f ≡ false) ↔ ((i : ℕ) → i < n → P i)
-any-fine n {f} m = (λ e i h. m i .0 (any-false n f e i h), λ p. any-missed n f (λ i h. m i .1 (p i h)))
+any-fine n {f} m = (λ e i h. m i .0 (any-none n f e i h), λ p. any-missed n f (λ i h. m i .1 (p i h)))

@@ -1,19 +1,22 @@
 -- What the loops over a list know of the numbers that they passed. Assumes nothing.
 use Prim.Native.Nat.{ℕ, suc, pred, _+_, _-_, _≤_, _<_}
-use mathlib.Core.Path.{_≡_, sym, ap}
+use mathlib.Core.Path.{_≡_, refl, sym, ap, _∙_}
 use mathlib.Core.Bool.{Bool, true, false}
 use mathlib.Core.List.{List}
 use native.Mathlib.Omega.{arith}
+use native.Mathlib.Decide.{decLt}
+use native.Mathlib.Nat.{add-zero}
 use native.Mathlib.Numerals.{add-one, sub-one}
 use borrow.Author.Count.{below-more}
-use borrow.Author.Tests.{le-leb, lt-leb, lt-ltb}
+use borrow.Author.Tests.{le-leb, lt-leb, lt-ltb, le-ltb}
 use lib.ListN.{length, getD, drop, drop-of-length-le}
 use lib.Seq.{drop-cons}
 use lib.Dec.{leb, ltb}
 use Rattle.tree.specs.Sheet.{sumOf}
 use Rattle.rows.specs.Tables.{any}
+use Rattle.rows.proofs.Search.{met-left, met-right, any-hit, any-missed, any-none, any-cong}
 use Rattle.sheet.specs.Tests.{outside}
-use Rattle.sheet.proofs.Judged.{met-left, met-right, any-hit, any-missed}
+use Rattle.sheet.proofs.Judged.{never}
 
 -- A search that has met nothing below i.
 abbrev pub Passed : (ℕ → Bool) → ℕ → Type 0
@@ -25,8 +28,30 @@ passed-none f k h = absurd (omega arith)
 pub passed-more : (f : ℕ → Bool) (i : ℕ) → Passed f i → f i ≡ false → Passed f (i + 1)
 passed-more f i h e = below-more (λ k. f k ≡ false) i h e
 
+-- Four numbers from i on.
+abbrev pub four : (ℕ → Bool) → ℕ → Bool
+four f i = any 4 (λ k. f (i + k))
+
+pub passed-four : (f : ℕ → Bool) (i : ℕ) → Passed f i → four f i ≡ false → Passed f (i + 4)
+passed-four f i p e k h = go (decLt k i)
+  where
+    go : Dec (k < i) → f k ≡ false
+    go (yes q) = p k q
+    go (no q) =
+        let s : i + (k - i) ≡ k = omega arith in
+        rw s at (any-none 4 (λ k. f (i + k)) e (k - i) (omega arith))
+
 pub found : (f : ℕ → Bool) (n i : ℕ) → i < n → f i ≡ true → true ≡ any n f
 found f n i h e = sym (any-hit n f i h e)
+
+pub found-four : (f : ℕ → Bool) (n i : ℕ) → i + 4 ≤ n → four f i ≡ true → true ≡ any n f
+found-four f n i h e = go (any n f) refl
+  where
+    go : (b : Bool) → any n f ≡ b → true ≡ any n f
+    go true q = sym q
+    go false q =
+        let none : four f i ≡ false = any-missed 4 (λ k. f (i + k)) (λ k l. any-none n f q (i + k) (omega arith)) in
+        absurd (never (sym e ∙ none))
 
 pub missed : (f : ℕ → Bool) (n i : ℕ) → n ≤ i → Passed f i → false ≡ any n f
 missed f n i h p = sym (any-missed n f (λ k q. p k (omega arith)))
@@ -78,3 +103,22 @@ below least most y h = met-left (ltb y least) (ltb most y) (lt-ltb y least h)
 
 pub above : (least most y : ℕ) → most < y → outside least most y ≡ true
 above least most y h = met-right (ltb y least) (ltb most y) (lt-ltb most y h)
+
+-- No number is below 0.
+only-above : (most y : ℕ) → outside 0 most y ≡ ltb most y
+only-above most y = let z : ltb y 0 ≡ false = le-ltb y 0 (omega arith) in rw z
+
+pub above-is : (l : List ℕ) (most : ℕ) → any (length l) (λ i. outside 0 most (getD l i 0)) ≡ any (length l) (λ i. ltb most (getD l i 0))
+above-is l most = any-cong (length l) (λ i. outside 0 most (getD l i 0)) (λ i. ltb most (getD l i 0)) (λ i h. only-above most (getD l i 0))
+
+-- Four tests in a row, of which one is met or none.
+module _ (f : ℕ → Bool) (i : ℕ) where
+  pub four-first : f i ≡ true → true ≡ four f i
+  four-first e = sym (any-hit 4 (λ k. f (i + k)) 0 (omega arith) (rw (add-zero i) e))
+
+  pub four-at : (k : ℕ) → k < 4 → f (i + k) ≡ true → true ≡ four f i
+  four-at k h e = sym (any-hit 4 (λ k. f (i + k)) k h e)
+
+  pub four-last : (b : Bool) → f i ≡ false → f (i + 1) ≡ false → f (i + 2) ≡ false → b ≡ f (i + 3) → b ≡ four f i
+  unfolding any
+  four-last b p q r e = let z : f (i + 0) ≡ false = rw (add-zero i) p in e ∙ sym (rw (z, q, r))

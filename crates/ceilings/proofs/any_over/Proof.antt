@@ -1,73 +1,134 @@
--- `ceilings::any_over` meets its contract. The loops' invariant: nothing is found, and no entry before `place` is over its ceiling.
+-- `ceilings::any_over` meets its contract. The loops' invariant: nothing is found, and at no place before `place` is a leg over its ceiling.
 -- Assumes nothing.
 use Prim.Native.Nat.{ℕ, suc, _+_, _*_, _-_, _≤_, _<_}
 use mathlib.Core.Path.{_≡_, refl, sym, ap, _∙_}
 use mathlib.Core.Bool.{false}
 use lib.Arith.{digits-lt}
+use lib.ListN.{length}
+use native.Mathlib.Nat.{mul-le-mul}
 use native.Mathlib.Omega.{arith}
+use Rattle.tree.specs.Sheet.{Sheet, defaultMost}
+use Rattle.rows.specs.Limits.{bare}
+use Rattle.rows.proofs.Losses.{losses-long, points-rise, ceiling-read}
 use Rattle.rows.proofs.Parts.{next-tranche}
-use Rattle.ceilings.proofs.Found.{Clean, clean-none, clean-more, over-found, over-none, counts-most, tranches-most}
+use Rattle.ceilings.proofs.Found.{Clean, overAt, clean-none, clean-more, over-default, over-premium, under-both, over-found, over-none}
 use Rattle.ceilings.proofs.any_over.Statement.{statement}
 use Rattle.ceilings.proofs.any_over.Tie as tie
 
 abbrev Inv-loop : tie.InvT-loop
-Inv-loop names tranches rows ceilings found₀ place₀ j k₀ found place k =
-    (k ≤ suc names) × ((place ≡ j * suc names + k) × ((found ≡ false) × Clean rows ceilings place))
+Inv-loop pool attachments losses most defaults premiums names tranches found₀ place₀ j lower upper k₀ found place k =
+    (k ≤ suc (pool .names)) × ((place ≡ j * suc (pool .names) + k) × ((found ≡ false) × Clean (suc (pool .names)) (overAt (bare pool attachments) most defaults premiums) place))
 
 abbrev μ-loop : tie.MeasureT-loop
-μ-loop names tranches rows ceilings found₀ place₀ j k₀ found place k = suc names - k
+μ-loop pool attachments losses most defaults premiums names tranches found₀ place₀ j lower upper k₀ found place k = suc (pool .names) - k
 
 abbrev Inv-search : tie.InvT-search
-Inv-search names tranches rows ceilings found₀ place₀ j₀ found place j =
-    (j ≤ suc tranches) × ((place ≡ j * suc names) × ((found ≡ false) × Clean rows ceilings place))
+Inv-search pool attachments losses most defaults premiums names tranches found₀ place₀ j₀ found place j =
+    (j ≤ suc (pool .tranches)) × ((place ≡ j * suc (pool .names)) × ((found ≡ false) × Clean (suc (pool .names)) (overAt (bare pool attachments) most defaults premiums) place))
 
 abbrev μ-search : tie.MeasureT-search
-μ-search names tranches rows ceilings found₀ place₀ j₀ found place j = suc tranches - j
+μ-search pool attachments losses most defaults premiums names tranches found₀ place₀ j₀ found place j = suc (pool .tranches) - j
 
 search-holds : tie.Need-search-holds Inv-loop μ-loop Inv-search μ-search
 search-holds c = (omega arith, (omega arith, (refl, clean-none _ _)))
 
+lower-of-requires : tie.Need-lower-of-requires Inv-loop μ-loop Inv-search μ-search
+lower-of-requires c κs =
+    let s = c .before .before .before .before .before .before in
+    (s .pre .0 .0, omega arith)
+
+upper-of-requires : tie.Need-upper-of-requires Inv-loop μ-loop Inv-search μ-search
+upper-of-requires c κs =
+    let s = c .before .before .before .before .before .before .before in
+    (s .pre .0 .0, omega arith)
+
 loop-holds : tie.Need-loop-holds Inv-loop μ-loop Inv-search μ-search
 loop-holds c =
-    let v = c .before .search .inv in
+    let v = c .before .before .before .search .inv in
     (omega arith, (omega (arith, v .1 .0), (v .1 .1 .0, v .1 .1 .1)))
 
-abbrev start : tie.In-loop Inv-loop μ-loop Inv-search μ-search → tie.Start Inv-loop μ-loop Inv-search μ-search
-start c = c .before .before .before .before
+module _ (c : tie.In-loop Inv-loop μ-loop Inv-search μ-search) where
+  abbrev start : tie.Start Inv-loop μ-loop Inv-search μ-search
+  start = c .before .before .before .before .before .before .before .before .before .before
 
-inside : (c : tie.In-loop Inv-loop μ-loop Inv-search μ-search) → c .before .loop .place < suc (start c .args .tranches) * suc (start c .args .names)
-inside c =
-    let a = start c .args in
-    omega (arith, digits-lt {q = c .before .before .before .search .j} {m = suc (a .tranches)} {r = c .before .loop .k} {c = suc (a .names)} (omega arith) (omega arith), c .before .loop .inv .1 .0)
+  abbrev x : Sheet
+  x = bare (start .args .pool) (start .args .attachments .now)
+
+  abbrev j : ℕ
+  j = c .before .before .before .before .before .search .j
+
+  abbrev k : ℕ
+  k = c .before .loop .k
+
+  inside : c .before .loop .place < suc (start .args .pool .tranches) * suc (start .args .pool .names)
+  inside =
+      omega (arith, digits-lt {q = j} {m = suc (start .args .pool .tranches)} {r = k} {c = suc (start .args .pool .names)} (omega arith) (omega arith), c .before .loop .inv .1 .0)
+
+  -- few places
+  small : c .before .loop .place < 1134
+  small =
+      let l = start .pre .0 .0 in
+      let most : suc (start .args .pool .tranches) * suc (start .args .pool .names) ≤ 9 * 126 = mul-le-mul {n₁ = suc (start .args .pool .tranches)} {m₁ = suc (start .args .pool .names)} {n₂ = 9} {m₂ = 126} (omega (arith, l .tranches-most)) (omega (arith, l .names-most)) in
+      omega (arith, inside)
+
+  long : length (start .args .losses .now) ≡ suc (start .args .pool .names)
+  long = ap length (start .pre .0 .1) ∙ losses-long (start .args .pool .names) (start .args .pool .recovery)
+
+mul-tranche-outstanding : tie.Need-mul-tranche-outstanding Inv-loop μ-loop Inv-search μ-search
+mul-tranche-outstanding c = omega (arith, start c .pre .0 .0 .names-most)
+
+shared-slice-read-tranche-outstanding : tie.Need-shared-slice-read-tranche-outstanding Inv-loop μ-loop Inv-search μ-search
+shared-slice-read-tranche-outstanding c = omega (arith, long (c .before))
+
+tranche-outstanding-requires : tie.Need-tranche-outstanding-requires Inv-loop μ-loop Inv-search μ-search
+tranche-outstanding-requires c κs =
+    let i = c .before in
+    omega (arith, i .before .before .before .lower-of .ensures, i .before .before .upper-of .ensures, points-rise (x i) (start i .pre .0 .0) (j i))
+
+-- what the tranche has left to lose
+left-is : (c : tie.After-tranche-outstanding Inv-loop μ-loop Inv-search μ-search) → c .tranche-outstanding .result ≡ defaultMost (x (c .before .before)) (j (c .before .before)) (k (c .before .before))
+left-is c =
+    let i = c .before .before in
+    ceiling-read (x i) (j i) (k i) _ _ _ _ (omega arith) (i .before .before .before .lower-of .ensures) (i .before .before .upper-of .ensures) (start i .pre .0 .1) (c .tranche-outstanding .ensures)
 
 mul-if1 : tie.Need-mul-if1 Inv-loop μ-loop Inv-search μ-search
-mul-if1 c = omega (arith, inside c, start c .pre)
+mul-if1 c = omega (arith, small (c .before .before))
 
 shared-slice-read-if1 : tie.Need-shared-slice-read-if1 Inv-loop μ-loop Inv-search μ-search
-shared-slice-read-if1 c = omega (arith, inside (c .before), start (c .before) .pre)
+shared-slice-read-if1 c = let i = c .before .before .before in omega (arith, inside i, start i .pre .1 .0)
 
-mul-if1-2 : tie.Need-mul-if1-2 Inv-loop μ-loop Inv-search μ-search
-mul-if1-2 c = omega (arith, inside (c .before), start (c .before) .pre)
+mul-if2 : tie.Need-mul-if2 Inv-loop μ-loop Inv-search μ-search
+mul-if2 c = omega (arith, small (c .before .before .before .before))
 
-shared-slice-read-if1-2 : tie.Need-shared-slice-read-if1-2 Inv-loop μ-loop Inv-search μ-search
-shared-slice-read-if1-2 c = omega (arith, inside (c .before .before), start (c .before .before) .pre)
+shared-slice-read-if2 : tie.Need-shared-slice-read-if2 Inv-loop μ-loop Inv-search μ-search
+shared-slice-read-if2 c = let i = c .before .before .before .before .before in omega (arith, inside i, start i .pre .1 .1)
 
 add-place : tie.Need-add-place Inv-loop μ-loop Inv-search μ-search
-add-place c = omega (arith, inside (c .before .before .before), start (c .before .before .before) .pre)
+add-place c = omega (arith, small (c .before .before .before .before .before .before))
 
 add-k : tie.Need-add-k Inv-loop μ-loop Inv-search μ-search
-add-k c = let s = start (c .before .before .before) in omega (arith, counts-most (s .args .tranches) (s .args .names), s .pre)
+add-k c = omega (arith, start (c .before .before .before .before .before .before) .pre .0 .0 .names-most)
 
 loop-less : tie.Need-loop-less Inv-loop μ-loop Inv-search μ-search
 loop-less c = omega arith
 
 loop-again : tie.Need-loop-again Inv-loop μ-loop Inv-search μ-search
 loop-again c =
-    let v = c .before .before .before .before .loop .inv in
-    (omega arith, (omega (arith, v .1 .0), (v .1 .1 .0, clean-more _ _ _ (v .1 .1 .1) (c .if1 .left))))
+    let i = c .before .before .before .before .before .before in
+    let v = i .before .loop .inv in (
+      omega arith,
+      (
+        omega (arith, v .1 .0),
+        (
+          v .1 .1 .0,
+          clean-more _ _ (j i) (k i) _ (v .1 .1 .1) (v .1 .0) (omega arith)
+              (under-both (x i) _ _ _ (j i) (k i) _ (v .1 .0) _ (left-is (c .before .before .before .before)) (c .before .before .if1 .left) (c .if2 .left)),
+        ),
+      ),
+    )
 
 add-j : tie.Need-add-j Inv-loop μ-loop Inv-search μ-search
-add-j c = let s = c .before .before .before .before in omega (arith, tranches-most (s .args .tranches) (s .args .names), s .pre)
+add-j c = omega (arith, c .before .before .before .before .before .before .before .before .before .before .pre .0 .0 .tranches-most)
 
 search-less : tie.Need-search-less Inv-loop μ-loop Inv-search μ-search
 search-less c = omega arith
@@ -75,21 +136,25 @@ search-less c = omega arith
 search-again : tie.Need-search-again Inv-loop μ-loop Inv-search μ-search
 search-again c =
     let v = c .before .loop .inv in
-    (omega arith, (omega (arith, v .1 .0, next-tranche (c .before .before .before .search .j) (suc (c .before .before .before .before .args .names))), (v .1 .1 .0, v .1 .1 .1)))
+    (omega arith, (omega (arith, v .1 .0, next-tranche (c .before .before .before .before .before .search .j) (suc (c .before .before .before .before .before .before .before .before .before .before .args .pool .names))), (v .1 .1 .0, v .1 .1 .1)))
 
 returns : tie.Need-returns Inv-loop μ-loop Inv-search μ-search
 returns c =
-    let a = c .before .before .args in
+    let a = c .before .before .before .before .before .before .args in
     let v = c .before .search .inv in
-    let e : c .before .search .j ≡ suc (a .tranches) = omega arith in
-    let p : c .before .search .place ≡ suc (a .tranches) * suc (a .names) = v .1 .0 ∙ ap (λ (j : ℕ). j * suc (a .names)) e in
-    v .1 .1 .0 ∙ sym (over-none _ _ _ _ (rw p at (v .1 .1 .1)))
+    let e : c .before .search .j ≡ suc (a .pool .tranches) = omega arith in
+    let p : c .before .search .place ≡ suc (a .pool .tranches) * suc (a .pool .names) = v .1 .0 ∙ ap (λ (j : ℕ). j * suc (a .pool .names)) e in
+    v .1 .1 .0 ∙ sym (over-none _ _ _ (rw p at (v .1 .1 .1)))
 
 returns-2 : tie.Need-returns-2 Inv-loop μ-loop Inv-search μ-search
 returns-2 c =
-    let i = c .before .before .before in
-    let a = start i .args in
-    sym (over-found (suc (a .tranches)) (suc (a .names)) _ _ (i .before .before .before .search .j) (i .before .loop .k) (i .before .loop .place) (omega arith) (omega arith) (i .before .loop .inv .1 .0) (c .if1 .taken))
+    let i = c .before .before .before .before in
+    sym (over-found (suc (start i .args .pool .tranches)) (suc (start i .args .pool .names)) (overAt (x i) _ _ _) (j i) (k i) (omega arith) (omega arith) (over-default (x i) _ _ _ (j i) (k i) _ (i .before .loop .inv .1 .0) _ (left-is (c .before .before)) (c .if1 .taken)))
+
+returns-3 : tie.Need-returns-3 Inv-loop μ-loop Inv-search μ-search
+returns-3 c =
+    let i = c .before .before .before .before .before .before in
+    sym (over-found (suc (start i .args .pool .tranches)) (suc (start i .args .pool .names)) (overAt (x i) _ _ _) (j i) (k i) (omega arith) (omega arith) (over-premium (x i) _ _ _ (j i) (k i) _ (i .before .loop .inv .1 .0) (c .if2 .taken)))
 
 pub any-over-spec : {M : Type 1} → statement M
 any-over-spec =
@@ -100,11 +165,16 @@ any-over-spec =
     Inv-search
     μ-search
     search-holds
+    lower-of-requires
+    upper-of-requires
     loop-holds
+    mul-tranche-outstanding
+    shared-slice-read-tranche-outstanding
+    tranche-outstanding-requires
     mul-if1
     shared-slice-read-if1
-    mul-if1-2
-    shared-slice-read-if1-2
+    mul-if2
+    shared-slice-read-if2
     add-place
     add-k
     loop-less
@@ -113,4 +183,5 @@ any-over-spec =
     search-less
     search-again
     returns
-    returns-2)
+    returns-2
+    returns-3)

@@ -10,7 +10,7 @@ use Rattle.cash.specs.Units.{B}
 use Rattle.sheet.specs.Brought.{Brought, brought}
 use Rattle.sheet.specs.declared.Found.{Found}
 use Rattle.sheet.specs.Tests.{first, sheetTests, recoveryBad, attachmentsBad, hazardsBad, discountsBad, accrualsBad, couponsBad}
-use Rattle.sheet.proofs.Judged.{neither}
+use Rattle.rows.proofs.Search.{neither}
 use Rattle.sheet.proofs.Firsts.{first-none, first-met, first-passed}
 use Rattle.sheet.proofs.Meanings.{pool-fine, lists-fine}
 use Rattle.sheet.proofs.Lists.{hazards-told, discounts-told, coupons-told}

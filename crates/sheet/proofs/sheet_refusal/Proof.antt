@@ -5,7 +5,7 @@ use mathlib.Core.List.{[]}
 use borrow.Author.Needs.{needs}
 use Rattle.sheet.specs.Brought.{Brought, brought}
 use Rattle.sheet.specs.Tests.{first, sheetTests, poolBad, listsBad}
-use Rattle.sheet.proofs.Judged.{met-left, met-right}
+use Rattle.rows.proofs.Search.{met-left, met-right}
 use Rattle.sheet.proofs.Firsts.{first-met, first-passed}
 use Rattle.sheet.proofs.Meanings.{pool-fine, lists-fine}
 use Rattle.sheet.proofs.sheet_refusal.Statement.{statement}

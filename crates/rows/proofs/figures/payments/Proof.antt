@@ -10,17 +10,17 @@ use Rattle.rows.proofs.figures.payments.Statement.{statement}
 use Rattle.rows.proofs.figures.payments.Tie as tie
 
 abbrev Inv-loop : tie.InvT-loop
-Inv-loop pool attachments table₀ names tranches j₀ a₀ table j a =
+Inv-loop pool attachments losses table₀ names tranches j₀ a₀ table j a =
     Passed (suc (pool .tranches)) (suc (pool .names)) (paymentOf (bare pool attachments)) table₀ table j a
 
 abbrev μ-loop : tie.MeasureT-loop
-μ-loop pool attachments table₀ names tranches j₀ a₀ table j a = suc (pool .tranches) - j
+μ-loop pool attachments losses table₀ names tranches j₀ a₀ table j a = suc (pool .tranches) - j
 
 loop-holds : tie.Need-loop-holds Inv-loop μ-loop
 loop-holds c = passed-none _ _ _ _
 
 abbrev start : tie.In-loop Inv-loop μ-loop → tie.Start Inv-loop μ-loop
-start c = c .before .before .before .before
+start c = c .before .before .before .before .before
 
 -- how long the code's part is
 abbrev long : tie.In-loop Inv-loop μ-loop → ℕ
@@ -54,7 +54,7 @@ payment-row-requires c κs =
     (start i .pre .0, (omega arith, part-long (i .before .loop .inv) (start i .pre .1) (omega arith) (long i) (omega arith)))
 
 add-j : tie.Need-add-j Inv-loop μ-loop
-add-j c = omega (arith, c .before .before .before .before .before .before .before .before .pre .0 .tranches-most)
+add-j c = omega (arith, c .before .before .before .before .before .before .before .before .before .pre .0 .0 .tranches-most)
 
 loop-less : tie.Need-loop-less Inv-loop μ-loop
 loop-less c = omega arith
@@ -69,7 +69,7 @@ same-length c = c .before .loop .inv .swept .same
 
 returns : tie.Need-returns Inv-loop μ-loop
 unfolding rowOf
-returns c = passed-all (c .before .loop .inv) (c .before .before .before .before .pre .1) (omega (arith, c .before .loop .inv .most))
+returns c = passed-all (c .before .loop .inv) (c .before .before .before .before .before .pre .1) (omega (arith, c .before .loop .inv .most))
 
 pub payments-spec : {M : Type 1} → statement M
 payments-spec =

@@ -1,41 +1,46 @@
 -- `sheet::checks::any_outside` meets its contract. No number below i is outside. Assumes nothing.
-use Prim.Native.Nat.{_≤_, _-_}
+use Prim.Native.Nat.{ℕ, _+_, _-_, _≤_}
+use mathlib.Core.Path.{_≡_, sym, _∙_}
 use native.Mathlib.Omega.{arith}
 use borrow.Author.Needs.{needs}
-use borrow.Author.Tests.{le-ltb}
+use mathlib.Core.Bool.{Bool}
 use lib.ListN.{length, getD}
 use Rattle.sheet.specs.Tests.{outside}
-use Rattle.sheet.proofs.Judged.{neither}
-use Rattle.sheet.proofs.Loops.{Passed, passed-none, passed-more, found, missed, below, above}
+use Rattle.rows.proofs.Search.{any-missed}
+use Rattle.sheet.proofs.Loops.{Passed, passed-none, passed-four, found-four}
 use Rattle.sheet.proofs.checks.any_outside.Statement.{statement}
 use Rattle.sheet.proofs.checks.any_outside.Tie as tie
 
 abbrev Inv-loop : tie.InvT-loop
-Inv-loop list least most i₀ i = (i ≤ length list) × Passed (λ k. outside least most (getD list k 0)) i
+Inv-loop list least most size i₀ i = (i ≤ length list) × Passed (λ k. outside least most (getD list k 0)) i
 
 abbrev μ-loop : tie.MeasureT-loop
-μ-loop list least most i₀ i = length list - i
+μ-loop list least most size i₀ i = length list - i
 
 loop-holds : tie.Need-loop-holds Inv-loop μ-loop
 loop-holds c = (search needs, passed-none _)
 
-mul-if1 : tie.Need-mul-if1 Inv-loop μ-loop
-mul-if1 c = search needs
+sub-loop : tie.Need-sub-loop Inv-loop μ-loop
+sub-loop c = search needs
 
-shared-slice-read-if1 : tie.Need-shared-slice-read-if1 Inv-loop μ-loop
-shared-slice-read-if1 c = search needs
+four-outside-requires : tie.Need-four-outside-requires Inv-loop μ-loop
+four-outside-requires c κs = omega (arith, c .loop-test .taken)
 
 returns : tie.Need-returns Inv-loop μ-loop
-returns c = found _ _ _ (c .before .before .loop-test .taken) (below _ _ _ (c .if1 .taken))
+returns c =
+    let a = c .before .before .before .before .before .args in
+    found-four (λ k. outside (a .least) (a .most) (getD (a .list .now) k 0)) _ (c .before .before .before .loop .i) (omega (arith, c .before .before .loop-test .taken)) (sym (c .before .four-outside .ensures) ∙ c .if1 .taken)
 
-mul-if2 : tie.Need-mul-if2 Inv-loop μ-loop
-mul-if2 c = search needs
+add-four-outside : tie.Need-add-four-outside Inv-loop μ-loop
+add-four-outside c = search needs
 
-shared-slice-read-if2 : tie.Need-shared-slice-read-if2 Inv-loop μ-loop
-shared-slice-read-if2 c = search needs
+four-outside-requires-2 : tie.Need-four-outside-requires-2 Inv-loop μ-loop
+four-outside-requires-2 c κs = omega (arith, c .before .before .loop-test .taken)
 
 returns-2 : tie.Need-returns-2 Inv-loop μ-loop
-returns-2 c = found _ _ _ (c .before .before .before .before .loop-test .taken) (above _ _ _ (c .if2 .taken))
+returns-2 c =
+    let a = c .before .before .before .before .before .before .before .args in
+    found-four (λ k. outside (a .least) (a .most) (getD (a .list .now) k 0)) _ (c .before .before .before .before .before .loop .i + 4) (omega (arith, c .before .before .before .before .loop-test .taken)) (sym (c .before .four-outside2 .ensures) ∙ c .if2 .taken)
 
 add-i : tie.Need-add-i Inv-loop μ-loop
 add-i c = search needs
@@ -45,10 +50,35 @@ loop-less c = search needs
 
 loop-again : tie.Need-loop-again Inv-loop μ-loop
 loop-again c =
-    (omega arith, passed-more _ _ (c .before .before .before .before .before .loop .inv .1) (neither _ _ (le-ltb _ _ (c .before .before .if1 .left)) (le-ltb _ _ (c .if2 .left))))
+    let a = c .before .before .before .before .before .before .before .args in
+    let i = c .before .before .before .before .before .loop .i in
+    let f : ℕ → Bool = λ k. outside (a .least) (a .most) (getD (a .list .now) k 0) in
+    let e : i + 4 + 4 ≡ i + 8 = omega arith in (
+      omega (arith, c .before .before .before .before .loop-test .taken),
+      rw e at (passed-four f (i + 4) (passed-four f i (c .before .before .before .before .before .loop .inv .1) (sym (c .before .before .before .four-outside .ensures) ∙ c .before .before .if1 .left)) (sym (c .before .four-outside2 .ensures) ∙ c .if2 .left)),
+    )
+
+rest-outside-requires : tie.Need-rest-outside-requires Inv-loop μ-loop
+rest-outside-requires c κs = (c .before .loop .inv .0, any-missed _ _ (c .before .loop .inv .1))
 
 returns-3 : tie.Need-returns-3 Inv-loop μ-loop
-returns-3 c = missed _ _ _ (c .loop-test .left) (c .before .loop .inv .1)
+returns-3 c = c .rest-outside .ensures
 
 pub any-outside-spec : {M : Type 1} → statement M
-any-outside-spec = tie.close (tie.spec Inv-loop μ-loop loop-holds mul-if1 shared-slice-read-if1 returns mul-if2 shared-slice-read-if2 returns-2 add-i loop-less loop-again returns-3)
+any-outside-spec =
+    tie.close
+    (tie.spec
+    Inv-loop
+    μ-loop
+    loop-holds
+    sub-loop
+    four-outside-requires
+    returns
+    add-four-outside
+    four-outside-requires-2
+    returns-2
+    add-i
+    loop-less
+    loop-again
+    rest-outside-requires
+    returns-3)
