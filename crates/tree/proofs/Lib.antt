@@ -8,4 +8,4 @@ pub mod Jumps
 pub mod Forward
 pub mod Sheets
 pub mod Statements
-pub mod Trials
+pub mod Acceptance

@@ -1,4 +1,4 @@
--- Trial entries as facts of the definitions: the starred ones of document 01, and figures beside them. Proved in proofs/Trials.antt.
+-- Trial entries as facts of the definitions: the starred ones of document 01, and figures beside them. Proved in proofs/Acceptance.antt.
 use Prim.Native.Nat.{_*_, _^_}
 use mathlib.Core.Path.{_≡_}
 use mathlib.Core.List.{[], _∷_}

@@ -96,6 +96,8 @@ module _ (e : Engine) (rules : Rules e) (u : Run) (z h : ℕ) (w : Walked e u z 
       record {
         steps = omega (arith, p .place);
         walk = λ t. record { «open» = p .stood .opened t; number = p .stood .number t; position = p .position t };
+        default-is = held-D e rules u z h w (x .sheet) refl;
+        premium-is = held-A e rules u z h w (x .sheet) refl;
         default-near = λ j k l m. near-as (distance (x .sheet) inside .default j h i k m) (le-refl _) (ap (λ d. d * B ^ (2 * h + 1)) (sym (held-D e rules u z h w (x .sheet) refl j k l m))) refl;
         premium-near = λ j k l m. near-as (distance (x .sheet) inside .premium j h i k m) (le-refl _) (ap (λ d. 2 * (d * B ^ (2 * h + 1))) (sym (held-A e rules u z h w (x .sheet) refl j k l m))) refl;
         shown = shown;

@@ -13,7 +13,7 @@ use Rattle.cash.specs.Sums.{sumTo}
 use Rattle.cash.specs.Hedges.{netValue}
 use Rattle.register.specs.Rules.{Live}
 use Rattle.register.specs.Cut.{mayBeLeft}
-use Rattle.tree.specs.Sheet.{Sheet, exactD, exactA, dates, spanning}
+use Rattle.tree.specs.Sheet.{Sheet, D, A, exactD, exactA, dates, spanning}
 use Rattle.rows.specs.Rows.{nodeIn}
 use Rattle.sheet.specs.Brought.{Brought}
 use Rattle.sheet.specs.Limits.{Limits}
@@ -51,11 +51,14 @@ pub record Shown (e : Engine) (u : Run) (x : Brought) (y j k : ℕ) : Type 0 whe
   pub count : k ≤ x .sheet .names
   pub said : answers e u (value y same j k) ≡ heldWorth e u x j k
 
--- What is found where a list ends that walked h steps back on x. The exact values are whole numbers over B ^ (2 h + 1), and q / 2 is cleared by a factor 2.
+-- What is found where a list ends that walked h steps back on x. D and A are document 01's rule over those h steps, unit for unit.
+-- The exact values are whole numbers over B ^ (2 h + 1), and q / 2 is cleared by a factor 2.
 -- The tranches are compared with the one tranche of a second list, on a sheet with the same outer points, equal but for number and coupons, walked as far.
 pub record Found (e : Engine) (u : Run) (x : Brought) (h : ℕ) : Type 0 where
   pub steps : h ≤ x .sheet .steps
   pub walk : end e u .walk ≡ record { «open» = true; number = x .number; position = x .sheet .steps - h }
+  pub default-is : (j k : ℕ) → j ≤ x .sheet .tranches → k ≤ x .sheet .names → heldD e u (x .sheet) j k ≡ D (x .sheet) j h (x .sheet .steps - h) k
+  pub premium-is : (j k : ℕ) → j ≤ x .sheet .tranches → k ≤ x .sheet .names → heldA e u (x .sheet) j k ≡ A (x .sheet) j h (x .sheet .steps - h) k
   pub default-near : (j k : ℕ) → j ≤ x .sheet .tranches → k ≤ x .sheet .names →
       Near (h * B ^ (2 * h + 1)) (heldD e u (x .sheet) j k * B ^ (2 * h + 1)) (exactD (x .sheet) j h (x .sheet .steps - h) k)
   pub premium-near : (j k : ℕ) → j ≤ x .sheet .tranches → k ≤ x .sheet .names →

@@ -13,7 +13,7 @@ use sheet::Pool;
 use sheet::Refusal;
 
 // 2: whether the register or a row has another length. Of a pool outside its limits, which is refused before, it says nothing.
-pub fn rows_differ(pool: Pool, register: &[u8], defaults: &[u64], premiums: &[u64]) -> bool
+pub(crate) fn rows_differ(pool: Pool, register: &[u8], defaults: &[u64], premiums: &[u64]) -> bool
     ensures { λ r. ⌜ (poolBad (sheetOf pool [] [] [] []) ≡ false → r ≡ rowsBad (brought pool [] [] [] [] []) (now (register .entry)) (rowsOf (now (defaults .entry)) (now (premiums .entry)))) ⌝ }
 {
     if 125 < pool.names {
@@ -33,7 +33,7 @@ pub fn rows_differ(pool: Pool, register: &[u8], defaults: &[u64], premiums: &[u6
 }
 
 // The same for the row of forward.
-pub fn row_differs(pool: Pool, register: &[u8], row: &[u64]) -> bool
+pub(crate) fn row_differs(pool: Pool, register: &[u8], row: &[u64]) -> bool
     ensures { λ r. ⌜ (poolBad (sheetOf pool [] [] [] []) ≡ false → r ≡ rowBad (brought pool [] [] [] [] []) (now (register .entry)) (now (row .entry))) ⌝ }
 {
     if 125 < pool.names {
@@ -46,7 +46,7 @@ pub fn row_differs(pool: Pool, register: &[u8], row: &[u64]) -> bool
 }
 
 // 1 to 10. `lent` tells whether a list lent beside the sheet's own has another length.
-pub fn to_ten(
+pub(crate) fn to_ten(
     pool: Pool,
     attachments: &[u64],
     hazards: &[u64],
@@ -79,7 +79,7 @@ pub fn to_ten(
 }
 
 // 11: whether the walk is closed, of another number, or beyond the last step.
-pub fn off_walk(walk: Walk, pool: Pool) -> bool
+pub(crate) fn off_walk(walk: Walk, pool: Pool) -> bool
     ensures { λ r. ⌜ r ≡ walkBad (brought pool [] [] [] [] []) walk ⌝ }
 {
     if !walk.open {
@@ -92,7 +92,7 @@ pub fn off_walk(walk: Walk, pool: Pool) -> bool
 }
 
 // 1 to 12.
-pub fn to_twelve(
+pub(crate) fn to_twelve(
     walk: Walk,
     pool: Pool,
     attachments: &[u64],

@@ -18,7 +18,7 @@ use sheet::Pool;
 use sheet::Refusal;
 
 // A row of zeros.
-pub fn clear(row: &mut [u64])
+pub(crate) fn clear(row: &mut [u64])
     ensures { λ _. ⌜ now (row .exit) ≡ tab (length (now (row .entry))) (λ i. 0) ⌝ }
 {
     let mut i = 0;
@@ -29,7 +29,7 @@ pub fn clear(row: &mut [u64])
 }
 
 // D, A and W of a tranche at a count.
-pub fn worth_at(
+pub(crate) fn worth_at(
     pool: Pool,
     coupons: &[u64],
     defaults: &[u64],
@@ -47,7 +47,7 @@ pub fn worth_at(
 }
 
 // The loss, D and A of a tranche at a count.
-pub fn node_at(
+pub(crate) fn node_at(
     pool: Pool,
     attachments: &[u64],
     defaults: &[u64],
@@ -69,7 +69,7 @@ pub fn node_at(
 }
 
 // J of a tranche at a count.
-pub fn jump_at(
+pub(crate) fn jump_at(
     pool: Pool,
     attachments: &[u64],
     coupons: &[u64],
@@ -89,7 +89,7 @@ pub fn jump_at(
 }
 
 // The ratio of two jumps as it is answered.
-pub fn ratio_of(tranche: i64, index: i64) -> Answer
+pub(crate) fn ratio_of(tranche: i64, index: i64) -> Answer
     requires { ⌜ (natAbs tranche ≤ 200_000_000_000_000_000) × (natAbs index ≤ 200_000_000_000_000_000) ⌝ }
     ensures { λ r. ⌜ r ≡ hedgeAnswer (hedgeOf tranche index) ⌝ }
 {

@@ -19,11 +19,11 @@ use Rattle.walk.specs.Answers.{Rows, fresh, Said}
 use Rattle.walk.specs.Table.{Order, Judges}
 use Rattle.walk.specs.Does.{Stepped, Walks}
 use Rattle.walk.specs.Engine.{Engine}
-use Rattle.walk.specs.Lists.{same, other, Call, issue, withdraw, opening, back, value, State, Book, history}
-use Rattle.walk.specs.Promises.{Found}
+use Rattle.walk.specs.Lists.{same, other, Call, issue, withdraw, opening, back, value, State, Book, blankState, history}
+use Rattle.walk.specs.Promises.{Event, returned, leaves, withdrew, afterAll, everWithdrew, Found}
 use Rattle.walk.specs.Promise.{Rules, Demand3, blankRun}
-use Rattle.wrong.specs.Substitutes.{alwaysLive, issuedAgain, byteLeft, allRefused, exchangedNumbers, withdrawnFirst, notCleared, refusedZeroes, unissuedTaken, otherLength, zeroAlone, rowsLeft, oneFigure, rootAtOnce, oneRounding, roundedDown, countBefore, indexByLoss, positionMadeUp, stepEarly, zeroRefused, refusedMoves, oneAnswer, firstCoupon, netUnsigned, valueZeroes, withdrawnAnswered, ceilingsPassed, walkAbove, upsideDown, signLost, restCut, halfUpwards, paymentLost, flatForScale, stepShort, inPlace, refusedWrites}
-use Rattle.wrong.specs.Refuted.{NoneKeeps}
+use Rattle.wrong.specs.Substitutes.{alwaysLive, issuedAgain, byteLeft, bitsSet, allRefused, exchangedNumbers, withdrawnFirst, notCleared, refusedZeroes, unissuedTaken, otherLength, zeroAlone, rowsLeft, oneFigure, rootAtOnce, oneRounding, roundedDown, countBefore, indexByLoss, positionMadeUp, stepEarly, zeroRefused, refusedMoves, oneAnswer, firstCoupon, netUnsigned, valueZeroes, withdrawnAnswered, ceilingsPassed, walkAbove, upsideDown, signLost, restCut, halfUpwards, paymentLost, flatForScale, stepShort, inPlace, refusedWrites}
+use Rattle.wrong.specs.Refuted.{Power, Clearing, NoneKeeps}
 use Rattle.wrong.specs.Examples.{bookOf, filled, deck, used, toRoot, whole, elsewhere}
 use Rattle.wrong.proofs.Computing.{computed}
 
@@ -102,6 +102,26 @@ not-issuedAgain d = true≢false (d deck used (issue 7 ∷ withdraw 7 ∷ issue 
 not-byteLeft : Demand3 byteLeft → ⊥
 unfolding computed
 not-byteLeft d = true≢false (d deck used (opened (withdraw 7 ∷ [])) .owed .hidden 7 refl same 0 0)
+
+-- Issued and withdrawn.
+abbrev ended : List Event
+ended = returned deck (issue 7) ∷ returned deck (withdraw 7) ∷ []
+
+not-issuedAgain-later : Power issuedAgain → ⊥
+unfolding computed everWithdrew withdrew leaves afterAll
+not-issuedAgain-later p = true≢false (p (blankState used) ended .shut 7 refl .issue .0 .refused)
+
+not-byteLeft-later : Power byteLeft → ⊥
+unfolding computed everWithdrew withdrew leaves afterAll
+not-byteLeft-later p = true≢false (p (blankState used) ended .shut 7 refl .withdraw .0 .refused)
+
+not-bitsSet-later : Power bitsSet → ⊥
+unfolding computed everWithdrew withdrew leaves afterAll
+not-bitsSet-later p = true≢false (p (blankState used) ended .shut 7 refl .issue .0 .refused)
+
+not-bitsSet : Clearing bitsSet → ⊥
+unfolding computed
+not-bitsSet p = true≢false (sym (p (set blank 7 0xA5) 7 .withdraw refl))
 
 -- ---- open
 
@@ -302,6 +322,10 @@ none-keeps =
       always-live = not-alwaysLive;
       issued-again = not-issuedAgain;
       byte-left = not-byteLeft;
+      issued-again-later = not-issuedAgain-later;
+      byte-left-later = not-byteLeft-later;
+      bits-set-later = not-bitsSet-later;
+      bits-set = not-bitsSet;
       all-refused = not-allRefused;
       exchanged-numbers = not-exchangedNumbers;
       withdrawn-first = not-withdrawnFirst;

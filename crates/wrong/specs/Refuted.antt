@@ -1,13 +1,30 @@
 -- Which part of the promise rules out each wrong engine. Proved in proofs/Refuted.antt.
+use Prim.Native.Nat.{ℕ}
+use mathlib.Core.List.{List}
+use Rattle.walk.specs.Engine.{Engine}
+use Rattle.walk.specs.Lists.{State}
+use Rattle.walk.specs.Promises.{Event, Forever, Clears}
 use Rattle.walk.specs.Promise.{Rules, Demand3}
-use Rattle.wrong.specs.Substitutes.{alwaysLive, issuedAgain, byteLeft, allRefused, exchangedNumbers, withdrawnFirst, notCleared, refusedZeroes, unissuedTaken, rowsLeft, oneFigure, rootAtOnce, oneRounding, roundedDown, countBefore, indexByLoss, positionMadeUp, stepEarly, zeroRefused, refusedMoves, oneAnswer, firstCoupon, netUnsigned, valueZeroes, withdrawnAnswered, ceilingsPassed, otherLength, zeroAlone, walkAbove, upsideDown, signLost, restCut, halfUpwards, paymentLost, flatForScale, stepShort, inPlace, refusedWrites}
+use Rattle.wrong.specs.Substitutes.{alwaysLive, issuedAgain, byteLeft, bitsSet, allRefused, exchangedNumbers, withdrawnFirst, notCleared, refusedZeroes, unissuedTaken, rowsLeft, oneFigure, rootAtOnce, oneRounding, roundedDown, countBefore, indexByLoss, positionMadeUp, stepEarly, zeroRefused, refusedMoves, oneAnswer, firstCoupon, netUnsigned, valueZeroes, withdrawnAnswered, ceilingsPassed, otherLength, zeroAlone, walkAbove, upsideDown, signLost, restCut, halfUpwards, paymentLost, flatForScale, stepShort, inPlace, refusedWrites}
+
+-- The power, of every list of events, and what a write clears: two parts of the whole promise (`Keeps`).
+abbrev pub Power : Engine → Type 0
+Power e = (start : State) (l : List Event) → Forever e start l
+
+abbrev pub Clearing : Engine → Type 0
+Clearing e = (g : List ℕ) (y : ℕ) → Clears e g y
 
 -- Demand 3: the fault shows in a list of calls from a blank register, a fresh walk and rows of any content.
+-- The power: it shows where a withdrawn number is asked again. The clearing: in the byte that a write leaves.
 -- The rules: it shows in a hedge ratio or a distribution, or at a register or a walk that no such list leaves.
 pub record NoneKeeps : Type 0 where
   pub always-live : Demand3 alwaysLive → ⊥
   pub issued-again : Demand3 issuedAgain → ⊥
   pub byte-left : Demand3 byteLeft → ⊥
+  pub issued-again-later : Power issuedAgain → ⊥
+  pub byte-left-later : Power byteLeft → ⊥
+  pub bits-set-later : Power bitsSet → ⊥
+  pub bits-set : Clearing bitsSet → ⊥
   pub all-refused : Demand3 allRefused → ⊥
   pub exchanged-numbers : Demand3 exchangedNumbers → ⊥
   pub withdrawn-first : Demand3 withdrawnFirst → ⊥

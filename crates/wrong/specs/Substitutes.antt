@@ -92,6 +92,10 @@ issuedAgain = issueBy (λ g y. cond (isWithdrawn (statusIn g y)) (record { said 
 abbrev pub byteLeft : Engine
 byteLeft = withdrawBy (λ g y. record { said = ours .withdraw g y .said; register = g })
 
+-- Withdraw sets bits: the byte it leaves says unissued again.
+abbrev pub bitsSet : Engine
+bitsSet = withdrawBy (λ g y. record { said = ours .withdraw g y .said; register = cond (accepted (ours .withdraw g y .said)) (set g y 0xFF) g })
+
 -- ---- open
 
 abbrev pub allRefused : Engine
