@@ -1,4 +1,5 @@
 pub mod Desk
 pub mod Entries
 pub mod Orders
+pub mod Called
 pub mod Held

@@ -88,6 +88,7 @@ countSaid (Position i) row n k = saidOf (Position i)
 countSaid (Worth d a w) row n k = saidOf (Worth d a w)
 countSaid (Ratio z) row n k = saidOf (Ratio z)
 
+-- After 14 the row stays as the call filled it. That can't be seen: the next forward starts afresh, and nothing else reads the row.
 unfoldable pub spreadIn : Brought → List ℕ → List ℕ → ℕ → ℕ → Spread
 spreadIn x register row i k =
     let o = forwardIn x register row i in

@@ -3,10 +3,8 @@ ghost use mathlib.Core.Path.{_≡_};
 ghost use Rattle.sheet.specs.Refusals.{refusalNumber};
 ghost use Rattle.walk.specs.Answers.{saidOf, saidBy};
 ghost use Rattle.desk.specs.Held.{answerSaid};
-use crate::Acted;
 use crate::Answer;
 use walk::Refusal;
-use walk::Reply;
 
 // A refusal's number.
 pub fn number(refusal: Refusal) -> u8
@@ -55,17 +53,5 @@ pub fn written(answer: register::Answer) -> Answer
         register::Answer::Withdrawn => Answer::Refused(9),
         register::Answer::Unissued => Answer::Refused(10),
         register::Answer::Live => Answer::Refused(17),
-    }
-}
-
-// The same with its walk.
-pub fn replied(reply: Reply) -> Acted
-    ensures { λ r. ⌜ (r .walk ≡ reply .walk) × (answerSaid (r .answer) ≡ saidOf (reply .answer)) ⌝ }
-{
-    let walk = reply.walk;
-    let answer = reply.answer;
-    Acted {
-        answer: walked(answer),
-        walk,
     }
 }

@@ -49,7 +49,7 @@ returns c =
     spread-told (sheet s) (s .args .register .now) (s .args .row .now) _ _ (s .args .steps) (s .args .count) _
     (c .before .before .before .before .before .before .before .before .forward-size .ensures) (s .pre)
     (c .before .before .before .before .before .before .forward .ensures .0)
-    (said-off _ _ _ _ (c .before .before .enum-told .given .1) (c .if1 .taken))
+    (said-off _ _ (s .args .pool .names) (s .args .count) (c .before .before .enum-told .given .1) (c .if1 .taken))
 
 mul-t16 : tie.Need-mul-t16
 mul-t16 c =

@@ -33,10 +33,10 @@ mul-size c =
     )
 
 returns-3 : tie.Need-returns-3
-returns-3 c = search needs
+returns-3 c = omega arith
 
 returns-4 : tie.Need-returns-4
-returns-4 c = search needs
+returns-4 c = omega arith
 
 pub row-size-spec : {M : Type 1} → statement M
 row-size-spec =
