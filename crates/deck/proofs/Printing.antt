@@ -5,7 +5,7 @@ use mathlib.Core.Bool.{Bool, true, false}
 use mathlib.Core.List.{List, [], _∷_, _++_}
 use native.Mathlib.Nat.{zero-add}
 use native.Mathlib.Omega.{arith}
-use borrow.Author.Tests.{lt-ltb, le-ltb}
+use borrow.Author.Tests.{lt-ltb, le-ltb, ltb-true}
 use lib.Dec.{ltb}
 use lib.ListN.{length, drop, length-append}
 use lib.Seq.{sets, sets-eq}
@@ -71,3 +71,14 @@ printed-within deck out after r e = go (ltb (length out) (room (length deck))) r
         let m : r ≡ length (listing deck) = cc in
         let a : length after ≡ length (listing deck ++ drop (length (listing deck)) out) = ap (λ (q : Printout). length (q .out)) p in
         omega (arith, m, a, length-append (listing deck) (drop (length (listing deck)) out))
+
+-- that there is no room is said only where there is none
+pub no-room-only : (deck out after : List ℕ) → printout NoRoom after ≡ printing deck out → length out < room (length deck)
+unfolding printing
+no-room-only deck out after e = go (ltb (length out) (room (length deck))) refl
+  where
+    go : (b : Bool) → ltb (length out) (room (length deck)) ≡ b → length out < room (length deck)
+    go true t = ltb-true _ _ t
+    go false t =
+        let p : printout NoRoom after ≡ printout (Printed (length (listing deck))) (listing deck ++ drop (length (listing deck)) out) = e ∙ rw (t, printing) in
+        absurd (no-such p)

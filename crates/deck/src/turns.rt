@@ -206,7 +206,7 @@ fn turn(
 }
 
 // Runs a deck from its start, with nothing given and a fresh walk, and answers how many bytes it printed.
-pub fn all(
+pub(crate) fn all(
     deck: &[u8],
     attachments: &mut [u64],
     hazards: &mut [u64],

@@ -1,9 +1,15 @@
 -- What the calls answer has the values that their exported structs have fields for.
 -- Assumes nothing.
-use Prim.Native.Nat.{ℕ}
+use Prim.Native.Nat.{ℕ, _<_}
 use mathlib.Core.Path.{_≡_, refl, ap, _∙_}
 use mathlib.Core.List.{List, [], _∷_}
 use lib.IntN.{ℤ, pos}
+use lib.ListN.{length}
+use native.Mathlib.Omega.{arith}
+use Rattle.deck.specs.declared.Ran.{Ran}
+use Rattle.deck.specs.declared.Ran.the-variants.{Printed, NoRoom}
+use Rattle.deck.specs.Listing.{room, printout, printing}
+use Rattle.deck.proofs.Printing.{printed-within, no-room-only}
 use Rattle.rows.specs.declared.Pool as Inner
 use Rattle.sheet.specs.Brought.{Brought, brought}
 use Rattle.sheet.specs.declared.Found.{Found}
@@ -20,7 +26,7 @@ use Rattle.export.specs.declared.Opened.{Opened}
 use Rattle.export.specs.declared.Moved.{Moved}
 use Rattle.export.specs.declared.Valued.{Valued}
 use Rattle.export.specs.declared.Hedged.{Hedged}
-use Rattle.export.specs.Figures.{positionIn, defaultIn, premiumIn, netIn, ratioIn}
+use Rattle.export.specs.Figures.{positionIn, defaultIn, premiumIn, netIn, ratioIn, bytesIn}
 use Rattle.export.specs.Handed.{Handed, poolIn, walkIn, handed, opened, moved, valued, hedged}
 
 -- ---- the values of each call, whatever is found
@@ -128,3 +134,10 @@ forward-handed pool q in-pool es hs ds cs ks register row i a left n e h =
     let all : filledBy a left ≡ forwardCall (brought (poolIn pool) es hs ds cs ks) register row i =
     e ∙ (λ t. forwardCall (brought (in-pool t) es hs ds cs ks) register row i) in
     (h ∙ (λ t. saidOf (all t .answer) .number), (λ t. all t .row))
+
+-- ---- the number for no room
+
+-- No listing has as many bytes.
+pub told-apart : (deck out after : List ℕ) (a : Ran) → printout a after ≡ printing deck out → length after < bytesIn NoRoom → bytesIn a ≡ bytesIn NoRoom → length out < room (length deck)
+told-apart deck out after (Printed r) e h q = absurd (omega (arith, printed-within deck out after r e))
+told-apart deck out after NoRoom e h q = no-room-only deck out after e

@@ -1,6 +1,9 @@
 // The calls for programs in C and Rust. Each answers document 01's number, 0 or that of a refusal, with the values as numbers.
 // A slice is a pointer and a length. No call asks anything of its caller but that slices are what they say.
 ghost use mathlib.Core.Path.{_≡_};
+ghost use Prim.Native.Nat.{_<_};
+ghost use lib.ListN.{length};
+ghost use Rattle.deck.specs.declared.Ran.the-variants.{NoRoom};
 ghost use Rattle.deck.specs.Listing.{room, printing};
 ghost use Rattle.register.specs.Register.{issueAnswer, issueLeaves, withdrawAnswer, withdrawLeaves};
 ghost use Rattle.sheet.specs.Brought.{brought};
@@ -322,6 +325,7 @@ pub extern "C" fn lavroudem_deck_room(bytes: usize) -> usize
 pub extern "C" fn lavroudem_run_deck(deck: &[u8], out: &mut [u8]) -> usize
     ensures said { λ r. ⌜ r ≡ bytesIn (printing (now (deck .entry)) (now (out .entry)) .answer) ⌝ }
     ensures leaves { λ _. ⌜ now (out .exit) ≡ printing (now (deck .entry)) (now (out .entry)) .out ⌝ }
+    ensures apart { λ r. ⌜ (r ≡ bytesIn NoRoom → length (now (out .entry)) < room (length (now (deck .entry)))) ⌝ }
 {
     numbers::bytes_in(deck::run(deck, out))
 }

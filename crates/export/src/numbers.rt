@@ -8,7 +8,7 @@ use deck::Ran;
 use walk::Answer;
 use walk::Refusal;
 
-pub fn refusal_number(refusal: Refusal) -> u8
+pub(crate) fn refusal_number(refusal: Refusal) -> u8
     ensures { λ r. ⌜ r ≡ refusalNumber refusal ⌝ }
 {
     match refusal {
@@ -32,7 +32,7 @@ pub fn refusal_number(refusal: Refusal) -> u8
 }
 
 // The number of what the register answers.
-pub fn entry_number(answer: register::Answer) -> u8
+pub(crate) fn entry_number(answer: register::Answer) -> u8
     ensures { λ r. ⌜ r ≡ numberOf answer ⌝ }
 {
     match answer {
@@ -45,7 +45,7 @@ pub fn entry_number(answer: register::Answer) -> u8
 }
 
 // 0, or the number of a refusal.
-pub fn number_in(answer: Answer) -> u8
+pub(crate) fn number_in(answer: Answer) -> u8
     ensures { λ r. ⌜ r ≡ saidOf answer .number ⌝ }
 {
     match answer {
@@ -58,7 +58,7 @@ pub fn number_in(answer: Answer) -> u8
 }
 
 // The position of an answer, or 0.
-pub fn position_in(answer: Answer) -> usize
+pub(crate) fn position_in(answer: Answer) -> usize
     ensures { λ r. ⌜ r ≡ positionIn answer ⌝ }
 {
     match answer {
@@ -71,7 +71,7 @@ pub fn position_in(answer: Answer) -> usize
 }
 
 // D of an answer, or 0.
-pub fn default_in(answer: Answer) -> u64
+pub(crate) fn default_in(answer: Answer) -> u64
     ensures { λ r. ⌜ r ≡ defaultIn answer ⌝ }
 {
     match answer {
@@ -84,7 +84,7 @@ pub fn default_in(answer: Answer) -> u64
 }
 
 // A of an answer, or 0.
-pub fn premium_in(answer: Answer) -> u64
+pub(crate) fn premium_in(answer: Answer) -> u64
     ensures { λ r. ⌜ r ≡ premiumIn answer ⌝ }
 {
     match answer {
@@ -97,7 +97,7 @@ pub fn premium_in(answer: Answer) -> u64
 }
 
 // W of an answer, or 0.
-pub fn net_in(answer: Answer) -> i64
+pub(crate) fn net_in(answer: Answer) -> i64
     ensures { λ r. ⌜ r ≡ netIn answer ⌝ }
 {
     match answer {
@@ -110,7 +110,7 @@ pub fn net_in(answer: Answer) -> i64
 }
 
 // The ratio of an answer, or 0.
-pub fn ratio_in(answer: Answer) -> i64
+pub(crate) fn ratio_in(answer: Answer) -> i64
     ensures { λ r. ⌜ r ≡ ratioIn answer ⌝ }
 {
     match answer {
@@ -123,7 +123,7 @@ pub fn ratio_in(answer: Answer) -> i64
 }
 
 // The bytes that a deck printed, or the highest number where there was no room.
-pub fn bytes_in(ran: Ran) -> usize
+pub(crate) fn bytes_in(ran: Ran) -> usize
     ensures { λ r. ⌜ r ≡ bytesIn ran ⌝ }
 {
     match ran {
