@@ -135,10 +135,13 @@ fn roll_back(
     position: usize,
     steps: usize,
 ) {
-    let size = row_length(sheet);
     let mut paid = [0; ROOM];
     let mut left = [0; ROOM];
-    fill_tables(sheet, losses, &mut paid[..size], &mut left[..size]);
+    fill_payments(sheet, losses, &mut paid);
+    let accruals = &sheet.accruals[position - steps..position];
+    if any(accruals, |accrual| accrual != 0) {
+        fill_outstanding(sheet, losses, &mut left);
+    }
     let counts = sheet.names + 1;
     for i in (position - steps..position).rev() {
         let discount = sheet.discounts[i];
@@ -202,20 +205,27 @@ fn fill_losses(sheet: &Sheet, losses: &mut [u64]) {
     }
 }
 
-/// What a default pays, by the count before it, and what is outstanding.
-fn fill_tables(sheet: &Sheet, losses: &[u64; ROOM], paid: &mut [u64], left: &mut [u64]) {
+/// What a default pays, by the count before it.
+fn fill_payments(sheet: &Sheet, losses: &[u64; ROOM], paid: &mut [u64; ROOM]) {
     let counts = sheet.names + 1;
     for tranche in 0..=sheet.tranches {
         let first = tranche * counts;
         for place in first..first + sheet.names {
             paid[place] = losses[place + 1] - losses[place];
         }
+    }
+}
+
+/// What is outstanding, for a walk that meets a premium date.
+fn fill_outstanding(sheet: &Sheet, losses: &[u64; ROOM], left: &mut [u64; ROOM]) {
+    let counts = sheet.names + 1;
+    for tranche in 0..sheet.tranches {
         let width = width(sheet, tranche);
-        for place in first..first + counts {
+        for place in tranche * counts..(tranche + 1) * counts {
             left[place] = width - losses[place];
         }
     }
-    let index = &mut left[sheet.tranches * counts..];
+    let index = &mut left[sheet.tranches * counts..][..counts];
     for (k, left) in index.iter_mut().enumerate() {
         *left = B - k as u64 * B / sheet.names as u64;
     }
@@ -262,7 +272,7 @@ fn is_soiled(
         }
     }
     let most = sheet.accruals[position..].iter().sum();
-    premium_row.iter().any(|&a| a > most)
+    above(premium_row, most)
 }
 
 /// Checks 1 to 10, for the calls that are lent both rows.
@@ -293,18 +303,22 @@ fn check_after_pool(sheet: &Sheet, register: &[u8], row_fault: bool) -> Result<(
     let rising = sheet.attachments.windows(2).all(|pair| pair[0] < pair[1]);
     refuse_if(!rising || above(&sheet.attachments, B), Refusal::Cuts)?;
     refuse_if(above(&sheet.hazards, B), Refusal::Hazard)?;
-    let zero_discount = sheet.discounts.contains(&0);
-    refuse_if(
-        zero_discount || above(&sheet.discounts, B),
-        Refusal::Discount,
-    )?;
+    let discount_fault = any(&sheet.discounts, |discount| discount == 0 || discount > B);
+    refuse_if(discount_fault, Refusal::Discount)?;
     refuse_if(accrual_fault(&sheet.accruals), Refusal::Accrual)?;
     refuse_if(above(&sheet.coupons, MAX_COUPON), Refusal::Coupon)?;
     register::check_live(register, sheet.number)
 }
 
 fn above(list: &[u64], most: u64) -> bool {
-    list.iter().any(|&number| number > most)
+    any(list, |number| number > most)
+}
+
+/// Eight at a time, so that the compiler unrolls the loop.
+fn any(list: &[u64], test: impl Fn(u64) -> bool) -> bool {
+    let some = |numbers: &[u64]| numbers.iter().any(|&number| test(number));
+    let mut eights = list.chunks_exact(8);
+    eights.any(some) || some(eights.remainder())
 }
 
 fn accrual_fault(accruals: &[u64]) -> bool {

@@ -13,11 +13,11 @@ type Tally = BTreeMap<(String, String), usize>;
 fn same(deck: &[u8], out: &mut [u8], tally: &mut Tally) {
     let printed = engine::run_deck(deck, out).expect("no room");
     let expected = listing(deck);
-    if out[..printed] != expected {
+    if printed != expected {
         let text = |bytes: &[u8]| String::from_utf8_lossy(bytes).into_owned();
         panic!(
             "deck {deck:02X?}\nengine:\n{}\nmodel:\n{}",
-            text(&out[..printed]),
+            text(printed),
             text(&expected)
         );
     }

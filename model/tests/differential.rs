@@ -6,7 +6,9 @@
 mod common;
 
 use common::{Random, B};
+use lavroudem::OpenWalk;
 use lavroudem_model::cash::default_payment;
+use lavroudem_model::deck::{Calls, CALLS};
 use lavroudem_model::engine;
 use lavroudem_model::refusal::Refusal;
 use lavroudem_model::register::{self, LIVE, UNISSUED};
@@ -67,59 +69,51 @@ fn said(answer: Result<Vec<i128>, Refusal>) -> Answer {
     }
 }
 
-/// The engine hands over a 0 for each figure of a refused call.
-fn handed(number: u8, figures: Vec<i128>) -> Answer {
-    if number == 0 {
-        return (0, figures);
-    }
-    assert!(figures.iter().all(|&figure| figure == 0), "{figures:?}");
-    (number, vec![])
+/// The calls of one side.
+struct Side {
+    issue: fn(&mut [u8], u8) -> Result<(), Refusal>,
+    withdraw: fn(&mut [u8], u8) -> Result<(), Refusal>,
+    calls: Calls,
 }
 
-fn ask_model(desk: &mut Desk, call: Call) -> Answer {
+const MODEL: Side = Side {
+    issue: register::issue,
+    withdraw: register::withdraw,
+    calls: CALLS,
+};
+
+const ENGINE: Side = Side {
+    issue: engine::issue,
+    withdraw: engine::withdraw,
+    calls: engine::CALLS,
+};
+
+fn ask_one(side: &Side, desk: &mut Desk, call: Call) -> Answer {
     let (walk, sheet, number) = (desk.walk, &desk.sheet, desk.sheet.number);
     let (steps, tranche, count) = (desk.steps, desk.tranche, desk.count);
-    let (default_row, premium_row) = (&mut desk.default_row, &mut desk.premium_row);
-    let register = &mut desk.register;
+    let (d, a) = (&mut desk.default_row, &mut desk.premium_row);
+    let (register, calls) = (&mut desk.register, side.calls);
     let (walk, answer) = match call {
-        Issue => (walk, register::issue(register, number).map(|()| vec![])),
-        Withdraw => (walk, register::withdraw(register, number).map(|()| vec![])),
+        Issue => (walk, (side.issue)(register, number).map(|()| vec![])),
+        Withdraw => (walk, (side.withdraw)(register, number).map(|()| vec![])),
         Open => {
-            let (walk, answer) = walk::open(walk, sheet, register, default_row, premium_row);
+            let (walk, answer) = (calls.open)(walk, sheet, register, d, a);
             (walk, answer.map(|()| vec![]))
         }
         Back => {
-            let (walk, answer) = walk::back(walk, sheet, register, steps, default_row, premium_row);
+            let (walk, answer) = (calls.back)(walk, sheet, register, steps, d, a);
             (walk, answer.map(|position| vec![position as i128]))
         }
         Value => {
-            let (walk, answer) = walk::value(
-                walk,
-                sheet,
-                register,
-                tranche,
-                count,
-                default_row,
-                premium_row,
-            );
-            let figures =
-                |value: walk::Value| vec![value.default as i128, value.premium as i128, value.net];
+            let (walk, answer) = (calls.value)(walk, sheet, register, tranche, count, d, a);
             (walk, answer.map(figures))
         }
         Ratio => {
-            let (walk, answer) = walk::hedge_ratio(
-                walk,
-                sheet,
-                register,
-                tranche,
-                count,
-                default_row,
-                premium_row,
-            );
+            let (walk, answer) = (calls.hedge_ratio)(walk, sheet, register, tranche, count, d, a);
             (walk, answer.map(|ratio| vec![ratio]))
         }
         Forward => {
-            let answer = walk::forward(sheet, register, steps, &mut desk.forward_row);
+            let answer = (calls.forward)(sheet, register, steps, &mut desk.forward_row);
             (walk, answer.map(|()| vec![]))
         }
     };
@@ -127,60 +121,8 @@ fn ask_model(desk: &mut Desk, call: Call) -> Answer {
     said(answer)
 }
 
-fn ask_engine(desk: &mut Desk, call: Call) -> Answer {
-    let (walk, sheet, number) = (desk.walk, &desk.sheet, desk.sheet.number);
-    let (steps, tranche, count) = (desk.steps, desk.tranche, desk.count);
-    let (default_row, premium_row) = (&mut desk.default_row, &mut desk.premium_row);
-    let register = &mut desk.register;
-    match call {
-        Issue => handed(engine::issue(register, number), vec![]),
-        Withdraw => handed(engine::withdraw(register, number), vec![]),
-        Open => {
-            let answer = engine::open(walk, sheet, register, default_row, premium_row);
-            desk.walk = answer.walk.into();
-            handed(answer.number, vec![])
-        }
-        Back => {
-            let answer = engine::back(walk, sheet, register, steps, default_row, premium_row);
-            desk.walk = answer.walk.into();
-            handed(answer.number, vec![answer.position as i128])
-        }
-        Value => {
-            let answer = engine::value(
-                walk,
-                sheet,
-                register,
-                tranche,
-                count,
-                default_row,
-                premium_row,
-            );
-            desk.walk = answer.walk.into();
-            let figures = vec![
-                answer.default.into(),
-                answer.premium.into(),
-                answer.net.into(),
-            ];
-            handed(answer.number, figures)
-        }
-        Ratio => {
-            let answer = engine::hedge_ratio(
-                walk,
-                sheet,
-                register,
-                tranche,
-                count,
-                default_row,
-                premium_row,
-            );
-            desk.walk = answer.walk.into();
-            handed(answer.number, vec![answer.ratio.into()])
-        }
-        Forward => {
-            let number = engine::forward(sheet, register, steps, &mut desk.forward_row);
-            handed(number, vec![])
-        }
-    }
+fn figures(value: walk::Value) -> Vec<i128> {
+    vec![value.default as i128, value.premium as i128, value.net]
 }
 
 /// How often each call gave each number.
@@ -190,12 +132,9 @@ type Tally = BTreeMap<(Call, u8), usize>;
 fn ask(desk: &mut Desk, call: Call, tally: &mut Tally) -> Answer {
     let before = desk.clone();
     let mut other = desk.clone();
-    let answer = ask_model(desk, call);
-    assert_eq!(
-        ask_engine(&mut other, call),
-        answer,
-        "{call:?} on {before:?}"
-    );
+    let answer = ask_one(&MODEL, desk, call);
+    let engine_answer = ask_one(&ENGINE, &mut other, call);
+    assert_eq!(engine_answer, answer, "{call:?} on {before:?}");
     assert_eq!(&other, desk, "{call:?} on {before:?}");
     *tally.entry((call, answer.0)).or_default() += 1;
     answer
@@ -475,4 +414,45 @@ fn the_largest_tree() {
     }
     desk.steps = 3_650;
     assert_eq!(ask(&mut desk, Forward, &mut tally).0, 0);
+}
+
+/// The walk that keeps its own sheet and rows goes as the lent one does.
+#[test]
+fn open_walks() {
+    let mut random = Random::new(0x5EED_0004);
+    let mut tally = Tally::new();
+    for _ in 0..300 {
+        let sheet = random.small_sheet();
+        let mut desk = walked(&mut random, sheet, &mut tally);
+        let sheet = desk.sheet.clone();
+        let mut own = engine::lend(&sheet).open(&desk.register).unwrap();
+        own.back(&desk.register, desk.steps).unwrap();
+        for _ in 0..4 {
+            operands(&mut random, &mut desk);
+            let moved = own.back(&desk.register, desk.steps);
+            let (number, _) = ask(&mut desk, Back, &mut tally);
+            assert_eq!(moved.map_or_else(|refusal| refusal.number(), |_| 0), number);
+            assert_eq!(own.position(), desk.walk.position);
+            assert_eq!(own.defaults(), desk.default_row);
+            assert_eq!(own.premiums(), desk.premium_row);
+            same_figures(&own, &mut desk, &mut tally);
+        }
+    }
+}
+
+fn same_figures(own: &OpenWalk, desk: &mut Desk, tally: &mut Tally) {
+    let value = own.value(&desk.register, desk.tranche, desk.count);
+    let ratio = own.hedge_ratio(&desk.register, desk.tranche, desk.count);
+    let value = value.map(|v| {
+        vec![
+            v.default_leg.into(),
+            v.premium_leg.into(),
+            v.net_value.into(),
+        ]
+    });
+    let number = |refusal: lavroudem::Refusal| (refusal.number(), vec![]);
+    let value = value.map_or_else(number, |figures| (0, figures));
+    let ratio = ratio.map_or_else(number, |ratio| (0, vec![ratio.into()]));
+    assert_eq!(value, ask(desk, Value, tally));
+    assert_eq!(ratio, ask(desk, Ratio, tally));
 }

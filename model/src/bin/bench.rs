@@ -29,31 +29,63 @@ struct Desk {
     out: Vec<u8>,
 }
 
+/// One side of the comparison.
+struct Side {
+    calls: Calls,
+    deck: fn(&mut Desk),
+}
+
+const ENGINE: Side = Side {
+    calls: engine::CALLS,
+    deck: engine_deck,
+};
+
+const RUST: Side = Side {
+    calls: FAST,
+    deck: fast_deck,
+};
+
+const FAST: Calls = Calls {
+    open: fast::open,
+    back: fast::back,
+    value: fast::value,
+    forward: fast::forward,
+    ..CALLS
+};
+
+type Work = fn(&Side, &mut Desk);
+
 fn main() {
     println!("NAME engine_ms model_ms ratio");
     let full = sheet(125, 3650, 8);
-    compare("walk_full", &full, engine_walk, fast_walk);
-    compare("walk_steps", &full, engine_steps, fast_steps);
-    compare("value_1000", &full, engine_values, fast_values);
-    compare("forward_full", &full, engine_forward, fast_forward);
-    compare("deck_full", &full, engine_deck, fast_deck);
+    let best = compare(
+        &full,
+        &[
+            ("walk_full", walk),
+            ("walk_steps", steps),
+            ("value_1000", values),
+            ("forward_full", forward),
+            ("deck_full", deck),
+        ],
+    );
+    let times = best[1] / best[0];
+    println!("# walk_steps is {times:.2} times walk_full");
     let floor = floor_ms(2 * 3650 * row_length(&full) as u64);
     println!("# five multiplications a row entry of walk_full, alone: {floor:.3} ms");
     println!("# {SHORT_CALLS} calls each");
-    compare("forward_by_0", &full, engine_forward_0, fast_forward_0);
-    compare("back_by_0", &full, engine_back_0, fast_back_0);
+    compare(&full, &[("forward_by_0", forward_0), ("back_by_0", back_0)]);
     println!("# walk_full by names, steps and tranches");
     for names in [1, 25, 50, 75, 100, 125] {
         let name = format!("names_{names}");
-        compare(&name, &sheet(names, 3650, 8), engine_walk, fast_walk);
+        compare(&sheet(names, 3650, 8), &[(&name, walk)]);
     }
     for steps in [365, 730, 1460, 2190, 2920, 3650] {
         let name = format!("steps_{steps}");
-        compare(&name, &sheet(125, steps, 8), engine_walk, fast_walk);
+        compare(&sheet(125, steps, 8), &[(&name, walk)]);
     }
     for tranches in 1..=8 {
         let name = format!("tranches_{tranches}");
-        compare(&name, &sheet(125, 3650, tranches), engine_walk, fast_walk);
+        compare(&sheet(125, 3650, tranches), &[(&name, walk)]);
     }
 }
 
@@ -112,24 +144,29 @@ fn opened(sheet: &Sheet) -> Desk {
     }
 }
 
-/// Times both sides, and sees that they leave the same.
-fn compare(name: &str, sheet: &Sheet, on_engine: fn(&mut Desk), on_model: fn(&mut Desk)) {
-    let (mut best_engine, mut best_model) = (f64::MAX, f64::MAX);
+/// Times both sides of each work, and sees that they leave the same. Prints a
+/// line for each and gives the engine's milliseconds. Works take turns too,
+/// so that they meet the machine at the same speed.
+fn compare(sheet: &Sheet, works: &[(&str, Work)]) -> Vec<f64> {
+    let mut best = vec![(f64::MAX, f64::MAX); works.len()];
     for _ in 0..RUNS {
-        let (engine_ms, engine_desk) = timed(sheet, on_engine);
-        let (model_ms, model_desk) = timed(sheet, on_model);
-        assert!(same(&engine_desk, &model_desk), "{name}: results differ");
-        best_engine = best_engine.min(engine_ms);
-        best_model = best_model.min(model_ms);
+        for (best, &(name, work)) in best.iter_mut().zip(works) {
+            let (engine_ms, engine_desk) = timed(&ENGINE, sheet, work);
+            let (model_ms, model_desk) = timed(&RUST, sheet, work);
+            assert!(same(&engine_desk, &model_desk), "{name}: results differ");
+            *best = (best.0.min(engine_ms), best.1.min(model_ms));
+        }
     }
-    let ratio = best_engine / best_model;
-    println!("{name} {best_engine:.3} {best_model:.3} {ratio:.2}");
+    for ((engine, model), (name, _)) in best.iter().zip(works) {
+        println!("{name} {engine:.3} {model:.3} {:.2}", engine / model);
+    }
+    best.iter().map(|&(engine, _)| engine).collect()
 }
 
-fn timed(sheet: &Sheet, work: fn(&mut Desk)) -> (f64, Desk) {
+fn timed(side: &Side, sheet: &Sheet, work: Work) -> (f64, Desk) {
     let mut desk = opened(sheet);
     let start = cpu_ms();
-    work(black_box(&mut desk));
+    work(side, black_box(&mut desk));
     let elapsed = cpu_ms() - start;
     (elapsed, desk)
 }
@@ -184,21 +221,8 @@ fn same(one: &Desk, other: &Desk) -> bool {
         && one.out == other.out
 }
 
-fn engine_back(desk: &mut Desk, steps: usize) {
-    let moved = engine::back(
-        desk.walk,
-        &desk.sheet,
-        &desk.register,
-        steps,
-        &mut desk.default_row,
-        &mut desk.premium_row,
-    );
-    assert_eq!(moved.number, 0);
-    desk.walk = moved.walk.into();
-}
-
-fn fast_back(desk: &mut Desk, steps: usize) {
-    let (walk, answer) = fast::back(
+fn back(side: &Side, desk: &mut Desk, steps: usize) {
+    let (walk, answer) = (side.calls.back)(
         desk.walk,
         &desk.sheet,
         &desk.register,
@@ -210,56 +234,25 @@ fn fast_back(desk: &mut Desk, steps: usize) {
     desk.walk = walk;
 }
 
-fn engine_walk(desk: &mut Desk) {
-    engine_back(desk, desk.sheet.steps);
+fn walk(side: &Side, desk: &mut Desk) {
+    back(side, desk, desk.sheet.steps);
 }
 
-fn fast_walk(desk: &mut Desk) {
-    fast_back(desk, desk.sheet.steps);
-}
-
-fn engine_steps(desk: &mut Desk) {
+fn steps(side: &Side, desk: &mut Desk) {
     for _ in 0..desk.sheet.steps {
-        engine_back(desk, 1);
+        back(side, desk, 1);
     }
 }
 
-fn fast_steps(desk: &mut Desk) {
-    for _ in 0..desk.sheet.steps {
-        fast_back(desk, 1);
-    }
-}
-
-fn engine_back_0(desk: &mut Desk) {
+fn back_0(side: &Side, desk: &mut Desk) {
     for _ in 0..SHORT_CALLS {
-        engine_back(desk, 0);
+        back(side, desk, 0);
     }
 }
 
-fn fast_back_0(desk: &mut Desk) {
+fn values(side: &Side, desk: &mut Desk) {
     for _ in 0..SHORT_CALLS {
-        fast_back(desk, 0);
-    }
-}
-
-fn engine_values(desk: &mut Desk) {
-    for _ in 0..SHORT_CALLS {
-        let valued = engine::value(
-            desk.walk,
-            &desk.sheet,
-            &desk.register,
-            0,
-            0,
-            &desk.default_row,
-            &desk.premium_row,
-        );
-        assert_eq!(black_box(valued).number, 0);
-    }
-}
-
-fn fast_values(desk: &mut Desk) {
-    for _ in 0..SHORT_CALLS {
-        let (_, answer) = fast::value(
+        let (_, answer) = (side.calls.value)(
             desk.walk,
             &desk.sheet,
             &desk.register,
@@ -272,33 +265,22 @@ fn fast_values(desk: &mut Desk) {
     }
 }
 
-fn engine_spread(desk: &mut Desk, steps: usize) {
-    let number = engine::forward(&desk.sheet, &desk.register, steps, &mut desk.row);
-    assert_eq!(number, 0);
+fn spread(side: &Side, desk: &mut Desk, steps: usize) {
+    (side.calls.forward)(&desk.sheet, &desk.register, steps, &mut desk.row).unwrap();
 }
 
-fn fast_spread(desk: &mut Desk, steps: usize) {
-    fast::forward(&desk.sheet, &desk.register, steps, &mut desk.row).unwrap();
+fn forward(side: &Side, desk: &mut Desk) {
+    spread(side, desk, desk.sheet.steps);
 }
 
-fn engine_forward(desk: &mut Desk) {
-    engine_spread(desk, desk.sheet.steps);
-}
-
-fn fast_forward(desk: &mut Desk) {
-    fast_spread(desk, desk.sheet.steps);
-}
-
-fn engine_forward_0(desk: &mut Desk) {
+fn forward_0(side: &Side, desk: &mut Desk) {
     for _ in 0..SHORT_CALLS {
-        engine_spread(desk, 0);
+        spread(side, desk, 0);
     }
 }
 
-fn fast_forward_0(desk: &mut Desk) {
-    for _ in 0..SHORT_CALLS {
-        fast_spread(desk, 0);
-    }
+fn deck(side: &Side, desk: &mut Desk) {
+    (side.deck)(desk);
 }
 
 fn engine_deck(desk: &mut Desk) {
@@ -306,13 +288,6 @@ fn engine_deck(desk: &mut Desk) {
 }
 
 fn fast_deck(desk: &mut Desk) {
-    let calls = Calls {
-        open: fast::open,
-        back: fast::back,
-        value: fast::value,
-        forward: fast::forward,
-        ..CALLS
-    };
-    let printed = listing_by(calls, &desk.deck);
+    let printed = listing_by(FAST, &desk.deck);
     desk.out[..printed.len()].copy_from_slice(&printed);
 }

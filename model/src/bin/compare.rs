@@ -21,8 +21,7 @@ fn main() -> ExitCode {
             _ if at % 100 == 99 => decks::oversized(&mut random),
             _ => decks::any(&mut random),
         };
-        let printed = engine::run_deck(&deck, &mut out).map(|length| &out[..length]);
-        if printed != Some(&listing(&deck)[..]) {
+        if engine::run_deck(&deck, &mut out) != Some(&listing(&deck)) {
             println!("deck {at} of seed {seed} differs: {deck:02X?}");
             return ExitCode::FAILURE;
         }

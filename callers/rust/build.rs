@@ -1,14 +1,10 @@
-//! With the feature `engine`, links the proved archive that `rt staticlib
-//! export` writes. Without it there is nothing to link.
+//! Links the proved archive that `rt staticlib export` writes.
 
 use std::env;
 use std::path::PathBuf;
 
 fn main() {
     println!("cargo:rerun-if-env-changed=LAVROUDEM_ARCHIVE_DIR");
-    if env::var_os("CARGO_FEATURE_ENGINE").is_none() {
-        return;
-    }
     let folder = archive_folder();
     let archive = folder.join("libexport.a");
     println!("cargo:rerun-if-changed={}", archive.display());
@@ -17,7 +13,6 @@ fn main() {
             "cargo:warning={} is missing: run `rt staticlib export` first",
             archive.display()
         );
-        return;
     }
     println!("cargo:rustc-link-search=native={}", folder.display());
     println!("cargo:rustc-link-lib=static=export");
@@ -27,6 +22,6 @@ fn main() {
 fn archive_folder() -> PathBuf {
     match env::var_os("LAVROUDEM_ARCHIVE_DIR") {
         Some(folder) => PathBuf::from(folder),
-        None => PathBuf::from(env!("CARGO_MANIFEST_DIR")).join("../target/staticlib"),
+        None => PathBuf::from(env!("CARGO_MANIFEST_DIR")).join("../../target/staticlib"),
     }
 }

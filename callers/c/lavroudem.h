@@ -1,0 +1,391 @@
+/*
+ * Lavroudem for C and C++: values tranches of a pool of credits on a tree of
+ * default counts. The functions stand in libexport.a, which `rt staticlib
+ * export` writes, for 64-bit x86 Linux.
+ *
+ * What holds of every call:
+ *
+ * - It checks what it is lent in the order of the refusals below and answers
+ *   the number of the first one met, or 0. A refused call changes nothing:
+ *   register, rows and output keep every byte, the walk comes back as it was
+ *   given, and the figures of the answer are 0.
+ * - A list is lent as a pointer and the number of its entries. This the caller
+ *   must see to, for no call can check it: the pointer is aligned for its
+ *   entries and not NULL, even where the number is 0; the memory is there; and
+ *   a list that a call writes overlaps no other list of that call. Lists that
+ *   it only reads may overlap.
+ * - Rows belong to their walk and sheet: bring the same sheet, and the rows as
+ *   the last call left them, from the open on. Another sheet with the same
+ *   number is taken as it comes.
+ * - It keeps nothing between calls, allocates nothing and locks nothing.
+ *   Threads may call at once, so long as none writes what another is lent. A
+ *   call needs less than 256 kB of stack.
+ *
+ * Units:
+ *
+ * - money: a unit is one billionth of the pool, LAVROUDEM_ONE is all of it
+ * - recovery, hazards and discounts: billionths, LAVROUDEM_ONE is 1
+ * - accruals: billionths of a year
+ * - coupons: thousandths of a basis point a year
+ * - default leg: units
+ * - premium leg: units, for a coupon of 100 percent a year
+ * - net value: ten-millionths of a unit
+ * - hedge ratio: millionths
+ */
+#ifndef LAVROUDEM_H
+#define LAVROUDEM_H
+
+#include <assert.h>
+#include <stdbool.h>
+#include <stddef.h>
+#include <stdint.h>
+
+#ifdef __cplusplus
+extern "C" {
+#endif
+
+/* ---- limits */
+
+#define LAVROUDEM_ONE 1000000000
+#define LAVROUDEM_MAX_NAMES 125
+#define LAVROUDEM_MAX_STEPS 3650
+#define LAVROUDEM_MAX_TRANCHES 8 /* the index not counted */
+#define LAVROUDEM_MAX_ACCRUALS 10000000000 /* their sum */
+#define LAVROUDEM_MAX_COUPON 10000000
+#define LAVROUDEM_MAX_DECK 65536 /* bytes */
+
+/* Entries of a row of the largest sheet, and of a forward row. */
+#define LAVROUDEM_MAX_ROW ((LAVROUDEM_MAX_TRANCHES + 1) * (LAVROUDEM_MAX_NAMES + 1))
+#define LAVROUDEM_MAX_FORWARD_ROW (LAVROUDEM_MAX_NAMES + 1)
+
+/*
+ * The register has one byte for each sheet number, 0 to 255. A blank one has
+ * LAVROUDEM_UNISSUED in every byte. All bytes but the first two below mean
+ * withdrawn; the third is what a withdrawal leaves. Issue and withdraw write
+ * the one byte of their number, and only clear bits of it.
+ */
+#define LAVROUDEM_REGISTER_LENGTH 256
+#define LAVROUDEM_UNISSUED 0xFF
+#define LAVROUDEM_LIVE 0xA5
+#define LAVROUDEM_WITHDRAWN 0x00
+
+/* ---- refusals, in the order in which a call checks them */
+
+enum lavroudem_refusal {
+    LAVROUDEM_ACCEPTED = 0,
+    LAVROUDEM_REFUSED_POOL = 1, /* names, steps or tranches 0 or too many */
+    LAVROUDEM_REFUSED_LENGTH = 2, /* a list has another length than it should */
+    LAVROUDEM_REFUSED_RECOVERY = 3, /* above 1 */
+    LAVROUDEM_REFUSED_CUTS = 4, /* attachments not strictly rising, or above 1 */
+    LAVROUDEM_REFUSED_HAZARD = 5, /* one above 1 */
+    LAVROUDEM_REFUSED_DISCOUNT = 6, /* one 0 or above 1 */
+    LAVROUDEM_REFUSED_ACCRUAL = 7, /* one above 1, their sum above 10, or the last 0 */
+    LAVROUDEM_REFUSED_COUPON = 8, /* one above LAVROUDEM_MAX_COUPON */
+    LAVROUDEM_REFUSED_WITHDRAWN = 9, /* by the register */
+    LAVROUDEM_REFUSED_UNISSUED = 10, /* by the register */
+    LAVROUDEM_REFUSED_NO_WALK = 11, /* closed, of another number, or beyond the last step */
+    LAVROUDEM_REFUSED_SOILED = 12, /* an entry of the rows is over its ceiling */
+    LAVROUDEM_REFUSED_OUT_OF_STEPS = 13, /* back beyond the root, or forward beyond the last step */
+    LAVROUDEM_REFUSED_OFF_TREE = 14, /* no such tranche or default count */
+    LAVROUDEM_REFUSED_FLAT_HEDGE = 15, /* the index does not move with the next default */
+    LAVROUDEM_REFUSED_OFF_SCALE = 16, /* a ratio of a million or more, of either sign */
+    LAVROUDEM_REFUSED_LIVE = 17, /* issue of a live number */
+    /* The last three are printed by a deck; no function answers them. */
+    LAVROUDEM_REFUSED_UNKNOWN = 18, /* no such command */
+    LAVROUDEM_REFUSED_CUT_SHORT = 19, /* the deck ends within a command */
+    LAVROUDEM_REFUSED_TOO_MANY = 20 /* entries of a list, pools, or bytes of a deck */
+};
+
+/* The word of a refusal; "" for a number that is none. */
+static inline const char *lavroudem_word(unsigned refusal)
+{
+    static const char *const words[] = {
+        "accepted", "pool", "length", "recovery", "cuts", "hazard", "discount", "accrual",
+        "coupon", "withdrawn", "unissued", "no walk", "soiled", "out of steps", "off tree",
+        "flat hedge", "off scale", "live", "unknown", "cut short", "too many",
+    };
+    return refusal < sizeof words / sizeof words[0] ? words[refusal] : "";
+}
+
+/* ---- what is brought and answered */
+
+/* A sheet's figures. Its lists go beside it:
+ *   attachments  tranches + 1, rising; tranche j lies between entries j and j + 1
+ *   hazards      names; entry k is the chance that a step takes k defaults to k + 1
+ *   discounts    steps; entry i - 1 brings cash from step i to step i - 1
+ *   accruals     steps; entry i - 1 is paid at step i, and 0 if that is no premium date
+ *   coupons      tranches + 1, that of the index last
+ */
+struct lavroudem_pool {
+    size_t names;
+    size_t steps;
+    size_t tranches;
+    uint64_t recovery;
+    uint8_t number;
+};
+
+/* A walk. A fresh one is all zeros. Pass the one that the last call handed back. */
+struct lavroudem_walk {
+    bool open;
+    uint8_t number;  /* of its sheet */
+    size_t position; /* the step at which its rows stand; 0 is the root */
+};
+
+/* In each answer `refusal` is LAVROUDEM_ACCEPTED or the number of a refusal. */
+
+struct lavroudem_opened {
+    uint8_t refusal;
+    struct lavroudem_walk walk;
+};
+
+struct lavroudem_moved {
+    uint8_t refusal;
+    size_t position; /* the new one, that of the walk */
+    struct lavroudem_walk walk;
+};
+
+struct lavroudem_valued {
+    uint8_t refusal;
+    uint64_t default_leg;
+    uint64_t premium_leg;
+    int64_t net_value; /* 10,000,000 * default leg - coupon * premium leg */
+    struct lavroudem_walk walk;
+};
+
+struct lavroudem_hedged {
+    uint8_t refusal;
+    int64_t ratio;
+    struct lavroudem_walk walk;
+};
+
+/* ---- the functions */
+
+/* Makes an unissued number live: writes its byte of the register. Refusals 2, 9, 17. */
+uint8_t lavroudem_issue(uint8_t *register_bytes, size_t register_length, uint8_t number);
+
+/* Ends a live number for good: writes its byte of the register. Refusals 2, 9, 10. */
+uint8_t lavroudem_withdraw(uint8_t *register_bytes, size_t register_length, uint8_t number);
+
+/*
+ * Starts a walk at the last step, whatever walk is given. Writes zeros to both
+ * rows, which may hold anything before. Each row has (tranches + 1) *
+ * (names + 1) entries: those of tranche 0 by default count, from 0 to names,
+ * then those of tranche 1, and so on, the index last. Refusals 1 to 10.
+ */
+struct lavroudem_opened lavroudem_open(
+    struct lavroudem_walk walk,
+    struct lavroudem_pool pool,
+    const uint64_t *attachments, size_t attachments_length,
+    const uint64_t *hazards, size_t hazards_length,
+    const uint64_t *discounts, size_t discounts_length,
+    const uint64_t *accruals, size_t accruals_length,
+    const uint64_t *coupons, size_t coupons_length,
+    const uint8_t *register_bytes, size_t register_length,
+    uint64_t *defaults, size_t defaults_length,
+    uint64_t *premiums, size_t premiums_length);
+
+/*
+ * Takes both rows so many steps back, 0 included, and answers the new
+ * position. Writes both rows. Refusals 1 to 13.
+ */
+struct lavroudem_moved lavroudem_back(
+    struct lavroudem_walk walk,
+    struct lavroudem_pool pool,
+    const uint64_t *attachments, size_t attachments_length,
+    const uint64_t *hazards, size_t hazards_length,
+    const uint64_t *discounts, size_t discounts_length,
+    const uint64_t *accruals, size_t accruals_length,
+    const uint64_t *coupons, size_t coupons_length,
+    const uint8_t *register_bytes, size_t register_length,
+    uint64_t *defaults, size_t defaults_length,
+    uint64_t *premiums, size_t premiums_length,
+    size_t steps);
+
+/*
+ * Answers the default leg, the premium leg and the net value of a tranche,
+ * 0 to tranches (the index), at a default count, 0 to names. Writes nothing.
+ * Refusals 1 to 12 and 14.
+ */
+struct lavroudem_valued lavroudem_value(
+    struct lavroudem_walk walk,
+    struct lavroudem_pool pool,
+    const uint64_t *attachments, size_t attachments_length,
+    const uint64_t *hazards, size_t hazards_length,
+    const uint64_t *discounts, size_t discounts_length,
+    const uint64_t *accruals, size_t accruals_length,
+    const uint64_t *coupons, size_t coupons_length,
+    const uint8_t *register_bytes, size_t register_length,
+    const uint64_t *defaults, size_t defaults_length,
+    const uint64_t *premiums, size_t premiums_length,
+    size_t tranche, size_t count);
+
+/*
+ * Answers how much of the index, in millionths of the whole pool's, hedges
+ * the whole tranche against the next default, at a default count below names.
+ * Writes nothing. Refusals 1 to 12 and 14 to 16.
+ */
+struct lavroudem_hedged lavroudem_hedge_ratio(
+    struct lavroudem_walk walk,
+    struct lavroudem_pool pool,
+    const uint64_t *attachments, size_t attachments_length,
+    const uint64_t *hazards, size_t hazards_length,
+    const uint64_t *discounts, size_t discounts_length,
+    const uint64_t *accruals, size_t accruals_length,
+    const uint64_t *coupons, size_t coupons_length,
+    const uint8_t *register_bytes, size_t register_length,
+    const uint64_t *defaults, size_t defaults_length,
+    const uint64_t *premiums, size_t premiums_length,
+    size_t tranche, size_t count);
+
+/*
+ * Writes to a row of names + 1 entries the chance, in billionths, of each
+ * default count after so many steps from no default. It needs no walk.
+ * Refusals 1 to 10 and 13.
+ */
+uint8_t lavroudem_forward(
+    struct lavroudem_pool pool,
+    const uint64_t *attachments, size_t attachments_length,
+    const uint64_t *hazards, size_t hazards_length,
+    const uint64_t *discounts, size_t discounts_length,
+    const uint64_t *accruals, size_t accruals_length,
+    const uint64_t *coupons, size_t coupons_length,
+    const uint8_t *register_bytes, size_t register_length,
+    uint64_t *row, size_t row_length,
+    size_t steps);
+
+/* The bytes that must be lent for the listing of a deck of so many bytes. */
+size_t lavroudem_deck_room(size_t deck_length);
+
+/*
+ * Runs a deck on a blank register of its own, writes its listing to the start
+ * of `out`, and answers the bytes written. Where `out` is shorter than the
+ * room of the deck it writes nothing and answers LAVROUDEM_NO_ROOM.
+ */
+#define LAVROUDEM_NO_ROOM SIZE_MAX
+size_t lavroudem_run_deck(const uint8_t *deck, size_t deck_length, uint8_t *out, size_t out_length);
+
+/* ---- a sheet and its rows in one piece, so that no call lists them again */
+
+struct lavroudem_list {
+    const uint64_t *entries;
+    size_t length;
+};
+
+/* Initializes a list from an array (not from a pointer). */
+#define LAVROUDEM_LIST(array) { (array), sizeof (array) / sizeof (array)[0] }
+
+struct lavroudem_sheet {
+    struct lavroudem_pool pool;
+    struct lavroudem_list attachments;
+    struct lavroudem_list hazards;
+    struct lavroudem_list discounts;
+    struct lavroudem_list accruals;
+    struct lavroudem_list coupons;
+};
+
+/* Both rows have this length, (tranches + 1) * (names + 1). */
+struct lavroudem_rows {
+    uint64_t *defaults;
+    uint64_t *premiums;
+    size_t length;
+};
+
+#define LAVROUDEM_LENT(list) (list).entries, (list).length
+#define LAVROUDEM_LENT_SHEET(sheet, register_bytes)                              \
+    (sheet)->pool, LAVROUDEM_LENT((sheet)->attachments),                         \
+    LAVROUDEM_LENT((sheet)->hazards), LAVROUDEM_LENT((sheet)->discounts),        \
+    LAVROUDEM_LENT((sheet)->accruals), LAVROUDEM_LENT((sheet)->coupons),         \
+    (register_bytes), LAVROUDEM_REGISTER_LENGTH
+#define LAVROUDEM_LENT_ROWS(rows) (rows).defaults, (rows).length, (rows).premiums, (rows).length
+
+/* The register has LAVROUDEM_REGISTER_LENGTH bytes here and below. */
+static inline struct lavroudem_opened lavroudem_sheet_open(
+    struct lavroudem_walk walk, const struct lavroudem_sheet *sheet,
+    const uint8_t *register_bytes, struct lavroudem_rows rows)
+{
+    return lavroudem_open(
+        walk, LAVROUDEM_LENT_SHEET(sheet, register_bytes), LAVROUDEM_LENT_ROWS(rows));
+}
+
+static inline struct lavroudem_moved lavroudem_sheet_back(
+    struct lavroudem_walk walk, const struct lavroudem_sheet *sheet,
+    const uint8_t *register_bytes, struct lavroudem_rows rows, size_t steps)
+{
+    return lavroudem_back(
+        walk, LAVROUDEM_LENT_SHEET(sheet, register_bytes), LAVROUDEM_LENT_ROWS(rows), steps);
+}
+
+static inline struct lavroudem_valued lavroudem_sheet_value(
+    struct lavroudem_walk walk, const struct lavroudem_sheet *sheet,
+    const uint8_t *register_bytes, struct lavroudem_rows rows, size_t tranche, size_t count)
+{
+    return lavroudem_value(
+        walk, LAVROUDEM_LENT_SHEET(sheet, register_bytes), LAVROUDEM_LENT_ROWS(rows),
+        tranche, count);
+}
+
+static inline struct lavroudem_hedged lavroudem_sheet_hedge_ratio(
+    struct lavroudem_walk walk, const struct lavroudem_sheet *sheet,
+    const uint8_t *register_bytes, struct lavroudem_rows rows, size_t tranche, size_t count)
+{
+    return lavroudem_hedge_ratio(
+        walk, LAVROUDEM_LENT_SHEET(sheet, register_bytes), LAVROUDEM_LENT_ROWS(rows),
+        tranche, count);
+}
+
+static inline uint8_t lavroudem_sheet_forward(
+    const struct lavroudem_sheet *sheet, const uint8_t *register_bytes,
+    uint64_t *row, size_t row_length, size_t steps)
+{
+    return lavroudem_forward(
+        LAVROUDEM_LENT_SHEET(sheet, register_bytes), row, row_length, steps);
+}
+
+/* ---- the layout of the archive, in bytes */
+
+#define LAVROUDEM_SIZE(type, bytes) \
+    static_assert(sizeof(struct type) == (bytes), "size of " #type)
+#define LAVROUDEM_OFFSET(type, field, bytes) \
+    static_assert(offsetof(struct type, field) == (bytes), "offset of " #type "." #field)
+
+static_assert(sizeof(size_t) == 8 && sizeof(void *) == 8, "the archive is for 64 bits");
+static_assert(sizeof(bool) == 1, "a bool is a byte");
+
+LAVROUDEM_SIZE(lavroudem_pool, 40);
+LAVROUDEM_OFFSET(lavroudem_pool, names, 0);
+LAVROUDEM_OFFSET(lavroudem_pool, steps, 8);
+LAVROUDEM_OFFSET(lavroudem_pool, tranches, 16);
+LAVROUDEM_OFFSET(lavroudem_pool, recovery, 24);
+LAVROUDEM_OFFSET(lavroudem_pool, number, 32);
+
+LAVROUDEM_SIZE(lavroudem_walk, 16);
+LAVROUDEM_OFFSET(lavroudem_walk, open, 0);
+LAVROUDEM_OFFSET(lavroudem_walk, number, 1);
+LAVROUDEM_OFFSET(lavroudem_walk, position, 8);
+
+LAVROUDEM_SIZE(lavroudem_opened, 24);
+LAVROUDEM_OFFSET(lavroudem_opened, refusal, 0);
+LAVROUDEM_OFFSET(lavroudem_opened, walk, 8);
+
+LAVROUDEM_SIZE(lavroudem_moved, 32);
+LAVROUDEM_OFFSET(lavroudem_moved, refusal, 0);
+LAVROUDEM_OFFSET(lavroudem_moved, position, 8);
+LAVROUDEM_OFFSET(lavroudem_moved, walk, 16);
+
+LAVROUDEM_SIZE(lavroudem_valued, 48);
+LAVROUDEM_OFFSET(lavroudem_valued, refusal, 0);
+LAVROUDEM_OFFSET(lavroudem_valued, default_leg, 8);
+LAVROUDEM_OFFSET(lavroudem_valued, premium_leg, 16);
+LAVROUDEM_OFFSET(lavroudem_valued, net_value, 24);
+LAVROUDEM_OFFSET(lavroudem_valued, walk, 32);
+
+LAVROUDEM_SIZE(lavroudem_hedged, 32);
+LAVROUDEM_OFFSET(lavroudem_hedged, refusal, 0);
+LAVROUDEM_OFFSET(lavroudem_hedged, ratio, 8);
+LAVROUDEM_OFFSET(lavroudem_hedged, walk, 16);
+
+#ifdef __cplusplus
+}
+#endif
+
+#endif

@@ -1,0 +1,355 @@
+//! The functions of the archive, and all unsafe code of this crate.
+//!
+//! The archive takes a slice as a pointer and then a length, and structs by
+//! value. It trusts nothing else of its caller, so a call here takes slices
+//! apart and gives the answer the shape of a `Result`. Layout and parameters
+//! are those of `callers/c/lavroudem.h`.
+
+use crate::refusal::Refusal;
+use crate::sheet::Sheet;
+use crate::walk::{Value, Walk};
+
+/// A sheet's figures; its lists go beside it.
+#[repr(C)]
+struct Pool {
+    names: usize,
+    steps: usize,
+    tranches: usize,
+    recovery: u64,
+    number: u8,
+}
+
+// In each answer `refusal` is 0 or the number of a refusal, and after a
+// refusal the figures are 0.
+
+#[repr(C)]
+struct Opened {
+    refusal: u8,
+    walk: Walk,
+}
+
+#[repr(C)]
+struct Moved {
+    refusal: u8,
+    position: usize,
+    walk: Walk,
+}
+
+#[repr(C)]
+struct Valued {
+    refusal: u8,
+    default_leg: u64,
+    premium_leg: u64,
+    net_value: i64,
+    walk: Walk,
+}
+
+#[repr(C)]
+struct Hedged {
+    refusal: u8,
+    ratio: i64,
+    walk: Walk,
+}
+
+extern "C" {
+    fn lavroudem_issue(register: *mut u8, register_length: usize, number: u8) -> u8;
+    fn lavroudem_withdraw(register: *mut u8, register_length: usize, number: u8) -> u8;
+    fn lavroudem_deck_room(deck_length: usize) -> usize;
+    fn lavroudem_run_deck(
+        deck: *const u8,
+        deck_length: usize,
+        out: *mut u8,
+        out_length: usize,
+    ) -> usize;
+}
+
+/// Declares functions that take a sheet and a register, between their own
+/// first and last parameters.
+macro_rules! declare_with_sheet {
+    ($(fn $name:ident(
+        $($first:ident: $first_type:ty,)* [sheet, register] $(, $last:ident: $last_type:ty)*
+    ) -> $answer:ty;)*) => {
+        extern "C" {
+            $(fn $name(
+                $($first: $first_type,)*
+                pool: Pool,
+                attachments: *const u64,
+                attachments_length: usize,
+                hazards: *const u64,
+                hazards_length: usize,
+                discounts: *const u64,
+                discounts_length: usize,
+                accruals: *const u64,
+                accruals_length: usize,
+                coupons: *const u64,
+                coupons_length: usize,
+                register: *const u8,
+                register_length: usize,
+                $($last: $last_type,)*
+            ) -> $answer;)*
+        }
+    };
+}
+
+/// Calls one of them.
+macro_rules! call_with_sheet {
+    ($name:ident($($first:ident,)* [$sheet:ident, $register:ident] $(, $last:expr)* $(,)?)) => {
+        $name(
+            $($first,)*
+            pool($sheet),
+            $sheet.attachments.as_ptr(),
+            $sheet.attachments.len(),
+            $sheet.hazards.as_ptr(),
+            $sheet.hazards.len(),
+            $sheet.discounts.as_ptr(),
+            $sheet.discounts.len(),
+            $sheet.accruals.as_ptr(),
+            $sheet.accruals.len(),
+            $sheet.coupons.as_ptr(),
+            $sheet.coupons.len(),
+            $register.as_ptr(),
+            $register.len(),
+            $($last,)*
+        )
+    };
+}
+
+declare_with_sheet! {
+    fn lavroudem_open(
+        walk: Walk,
+        [sheet, register],
+        defaults: *mut u64,
+        defaults_length: usize,
+        premiums: *mut u64,
+        premiums_length: usize
+    ) -> Opened;
+    fn lavroudem_back(
+        walk: Walk,
+        [sheet, register],
+        defaults: *mut u64,
+        defaults_length: usize,
+        premiums: *mut u64,
+        premiums_length: usize,
+        steps: usize
+    ) -> Moved;
+    fn lavroudem_value(
+        walk: Walk,
+        [sheet, register],
+        defaults: *const u64,
+        defaults_length: usize,
+        premiums: *const u64,
+        premiums_length: usize,
+        tranche: usize,
+        count: usize
+    ) -> Valued;
+    fn lavroudem_hedge_ratio(
+        walk: Walk,
+        [sheet, register],
+        defaults: *const u64,
+        defaults_length: usize,
+        premiums: *const u64,
+        premiums_length: usize,
+        tranche: usize,
+        count: usize
+    ) -> Hedged;
+    fn lavroudem_forward(
+        [sheet, register],
+        row: *mut u64,
+        row_length: usize,
+        steps: usize
+    ) -> u8;
+}
+
+fn pool(sheet: &Sheet) -> Pool {
+    Pool {
+        names: sheet.names,
+        steps: sheet.steps,
+        tranches: sheet.tranches,
+        recovery: sheet.recovery,
+        number: sheet.number,
+    }
+}
+
+/// The figures of an accepted call, or the refusal.
+#[inline]
+fn answer<T>(refusal: u8, figures: T) -> Result<T, Refusal> {
+    match Refusal::from_number(refusal) {
+        None => Ok(figures),
+        Some(refusal) => Err(refusal),
+    }
+}
+
+/// Makes an unissued number live: writes its byte of the register. Refusals
+/// 2, 9 and 17.
+#[inline]
+pub fn issue(register: &mut [u8], number: u8) -> Result<(), Refusal> {
+    // SAFETY: pointer and length are those of one slice, lent to be written.
+    let refusal = unsafe { lavroudem_issue(register.as_mut_ptr(), register.len(), number) };
+    answer(refusal, ())
+}
+
+/// Ends a live number for good: writes its byte of the register. Refusals 2,
+/// 9 and 10.
+#[inline]
+pub fn withdraw(register: &mut [u8], number: u8) -> Result<(), Refusal> {
+    // SAFETY: pointer and length are those of one slice, lent to be written.
+    let refusal = unsafe { lavroudem_withdraw(register.as_mut_ptr(), register.len(), number) };
+    answer(refusal, ())
+}
+
+/// Starts a walk at the last step, whatever walk is given, and fills both
+/// rows with zeros; they may hold anything before. Refusals 1 to 10.
+#[inline]
+pub fn open(
+    walk: Walk,
+    sheet: &Sheet,
+    register: &[u8],
+    defaults: &mut [u64],
+    premiums: &mut [u64],
+) -> (Walk, Result<(), Refusal>) {
+    // SAFETY: each pointer and length are those of one slice, and only the
+    // two rows are written, which are lent for that and so overlap nothing.
+    let opened = unsafe {
+        call_with_sheet!(lavroudem_open(
+            walk,
+            [sheet, register],
+            defaults.as_mut_ptr(),
+            defaults.len(),
+            premiums.as_mut_ptr(),
+            premiums.len(),
+        ))
+    };
+    (opened.walk, answer(opened.refusal, ()))
+}
+
+/// Takes both rows so many steps back, 0 included, and gives the new
+/// position. Refusals 1 to 13.
+#[inline]
+pub fn back(
+    walk: Walk,
+    sheet: &Sheet,
+    register: &[u8],
+    defaults: &mut [u64],
+    premiums: &mut [u64],
+    steps: usize,
+) -> (Walk, Result<usize, Refusal>) {
+    // SAFETY: as in `open`.
+    let moved = unsafe {
+        call_with_sheet!(lavroudem_back(
+            walk,
+            [sheet, register],
+            defaults.as_mut_ptr(),
+            defaults.len(),
+            premiums.as_mut_ptr(),
+            premiums.len(),
+            steps,
+        ))
+    };
+    (moved.walk, answer(moved.refusal, moved.position))
+}
+
+/// What a tranche, 0 to tranches (the index), is worth at a default count, 0
+/// to names. Refusals 1 to 12 and 14.
+#[inline]
+pub fn value(
+    walk: Walk,
+    sheet: &Sheet,
+    register: &[u8],
+    defaults: &[u64],
+    premiums: &[u64],
+    tranche: usize,
+    count: usize,
+) -> (Walk, Result<Value, Refusal>) {
+    // SAFETY: each pointer and length are those of one slice; all are read.
+    let valued = unsafe {
+        call_with_sheet!(lavroudem_value(
+            walk,
+            [sheet, register],
+            defaults.as_ptr(),
+            defaults.len(),
+            premiums.as_ptr(),
+            premiums.len(),
+            tranche,
+            count,
+        ))
+    };
+    let value = Value {
+        default_leg: valued.default_leg,
+        premium_leg: valued.premium_leg,
+        net_value: valued.net_value,
+    };
+    (valued.walk, answer(valued.refusal, value))
+}
+
+/// How much of the index, in millionths of the whole pool's, hedges the whole
+/// tranche against the next default, at a default count below names. Refusals
+/// 1 to 12 and 14 to 16.
+#[inline]
+pub fn hedge_ratio(
+    walk: Walk,
+    sheet: &Sheet,
+    register: &[u8],
+    defaults: &[u64],
+    premiums: &[u64],
+    tranche: usize,
+    count: usize,
+) -> (Walk, Result<i64, Refusal>) {
+    // SAFETY: as in `value`.
+    let hedged = unsafe {
+        call_with_sheet!(lavroudem_hedge_ratio(
+            walk,
+            [sheet, register],
+            defaults.as_ptr(),
+            defaults.len(),
+            premiums.as_ptr(),
+            premiums.len(),
+            tranche,
+            count,
+        ))
+    };
+    (hedged.walk, answer(hedged.refusal, hedged.ratio))
+}
+
+/// Fills a row with the chance of each default count, 0 to names, after so
+/// many steps from no default, in billionths. Refusals 1 to 10 and 13.
+#[inline]
+pub fn forward(
+    sheet: &Sheet,
+    register: &[u8],
+    row: &mut [u64],
+    steps: usize,
+) -> Result<(), Refusal> {
+    // SAFETY: as in `open`; only the row is written.
+    let refusal = unsafe {
+        call_with_sheet!(lavroudem_forward(
+            [sheet, register],
+            row.as_mut_ptr(),
+            row.len(),
+            steps,
+        ))
+    };
+    answer(refusal, ())
+}
+
+/// The bytes that must be lent for the listing of a deck of so many bytes.
+#[inline]
+pub fn deck_room(deck_length: usize) -> usize {
+    // SAFETY: it takes a number and reads nothing else.
+    unsafe { lavroudem_deck_room(deck_length) }
+}
+
+/// Runs a deck on a blank register of its own and writes its listing to the
+/// start of `out`; gives what was written. Nothing is written, and none
+/// given, where `out` is shorter than the room of the deck.
+#[inline]
+pub fn run_deck<'a>(deck: &[u8], out: &'a mut [u8]) -> Option<&'a [u8]> {
+    // SAFETY: each pointer and length are those of one slice, and only `out`
+    // is written, which is lent for that and so overlaps nothing.
+    let printed =
+        unsafe { lavroudem_run_deck(deck.as_ptr(), deck.len(), out.as_mut_ptr(), out.len()) };
+    // No room is the largest number, beyond any slice.
+    out.get(..printed)
+}
+
+#[cfg(test)]
+mod tests;

@@ -1,0 +1,104 @@
+//! Lavroudem values tranches of a pool of credits on a tree of default
+//! counts: default leg, premium leg, net value, and the index nominal that
+//! hedges a tranche against the next default. Every figure is computed by
+//! the proved engine; this crate only hands things over.
+//!
+//! ```
+//! use lavroudem::{Refusal, Sheet};
+//!
+//! let sheet = Sheet {
+//!     number: 7,
+//!     names: 2,
+//!     steps: 2,
+//!     tranches: 1,
+//!     recovery: 400_000_000,
+//!     attachments: &[0, 300_000_000],
+//!     hazards: &[100_000_000, 200_000_000],
+//!     discounts: &[1_000_000_000, 900_000_000],
+//!     accruals: &[0, 1_000_000_000],
+//!     coupons: &[1_000_000, 500_000],
+//! };
+//! let mut register = lavroudem::BLANK_REGISTER;
+//! lavroudem::issue(&mut register, sheet.number)?;
+//!
+//! let mut walk = sheet.open(&register)?;
+//! while walk.back(&register, 1)? > 0 {}
+//! assert_eq!(walk.value(&register, 0, 0)?.default_leg, 54_300_000);
+//! assert_eq!(walk.hedge_ratio(&register, 0, 0)?, 724_386);
+//!
+//! lavroudem::withdraw(&mut register, sheet.number)?;
+//! assert_eq!(walk.value(&register, 0, 0), Err(Refusal::Withdrawn));
+//! # Ok::<(), Refusal>(())
+//! ```
+//!
+//! Nothing needs to be checked before a call: the engine judges all that it
+//! is lent and names the first fault, and a refused call changes nothing.
+//!
+//! [`Sheet::open`] gives an [`OpenWalk`], which keeps the sheet, the walk and
+//! its rows together. The module [`lent`] has the calls as the engine has
+//! them, for programs that keep their own rows.
+//!
+//! Units: money is in billionths of the pool; recovery, hazards and discounts
+//! in billionths; accruals in billionths of a year; coupons in thousandths of
+//! a basis point a year; hedge ratios in millionths.
+
+mod archive;
+mod open_walk;
+mod refusal;
+mod sheet;
+mod walk;
+
+pub use archive::{issue, withdraw};
+pub use open_walk::OpenWalk;
+pub use refusal::Refusal;
+pub use sheet::Sheet;
+pub use walk::{Value, Walk};
+
+/// The calls over lent lists, as the engine has them.
+///
+/// Each hands back the walk that it was given, moved if it was accepted. The
+/// caller keeps walk and rows together: from an open on, the same sheet is
+/// brought, and the rows as the last call left them.
+pub mod lent {
+    pub use crate::archive::{back, deck_room, forward, hedge_ratio, open, run_deck, value};
+}
+
+/// The whole pool in units; also the 1 of recovery, hazards and discounts.
+pub const ONE: u64 = 1_000_000_000;
+
+pub const MAX_NAMES: usize = 125;
+pub const MAX_STEPS: usize = 3_650;
+/// The index not counted.
+pub const MAX_TRANCHES: usize = 8;
+/// The most that all accruals of a sheet sum to: ten years.
+pub const MAX_ACCRUALS: u64 = 10 * ONE;
+/// 10,000 basis points.
+pub const MAX_COUPON: u64 = 10_000_000;
+/// In bytes.
+pub const MAX_DECK: usize = 65_536;
+
+/// A register has one byte for each sheet number.
+pub const REGISTER_LENGTH: usize = 256;
+pub const UNISSUED: u8 = 0xFF;
+pub const LIVE: u8 = 0xA5;
+/// What a withdrawal leaves. All bytes but [`UNISSUED`] and [`LIVE`] mean the
+/// same.
+pub const WITHDRAWN: u8 = 0x00;
+
+/// A register of which no number is issued. A real one is kept over a power
+/// loss; [`issue`] and [`withdraw`] write one byte of it.
+pub const BLANK_REGISTER: [u8; REGISTER_LENGTH] = [UNISSUED; REGISTER_LENGTH];
+
+/// Runs a deck on a blank register of its own and gives its listing.
+///
+/// ```
+/// // An open before any pool is known.
+/// assert_eq!(lavroudem::run_deck(&[0x08]), b"open 1\n");
+/// ```
+pub fn run_deck(deck: &[u8]) -> Vec<u8> {
+    let mut out = vec![0; lent::deck_room(deck.len())];
+    let listing = lent::run_deck(deck, &mut out);
+    let length = listing.expect("the room that was asked for").len();
+    out.truncate(length);
+    out
+}

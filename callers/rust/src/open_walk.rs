@@ -1,0 +1,103 @@
+//! A sheet, its walk and its rows in one piece.
+
+use crate::lent;
+use crate::refusal::Refusal;
+use crate::sheet::Sheet;
+use crate::walk::{Value, Walk};
+
+/// A walk that was opened, with its sheet and rows, so that none of them can
+/// be exchanged on the way. The register is brought to each call: a number
+/// may be withdrawn at any time.
+#[derive(Clone, Debug, PartialEq, Eq)]
+pub struct OpenWalk<'a> {
+    sheet: Sheet<'a>,
+    walk: Walk,
+    defaults: Vec<u64>,
+    premiums: Vec<u64>,
+}
+
+impl<'a> OpenWalk<'a> {
+    pub(crate) fn open(sheet: Sheet<'a>, register: &[u8]) -> Result<OpenWalk<'a>, Refusal> {
+        let mut defaults = vec![0; sheet.row_length()];
+        let mut premiums = defaults.clone();
+        let (walk, answer) =
+            lent::open(Walk::FRESH, &sheet, register, &mut defaults, &mut premiums);
+        answer.map(|()| OpenWalk {
+            sheet,
+            walk,
+            defaults,
+            premiums,
+        })
+    }
+
+    /// Takes the walk so many steps back, 0 included, and gives its new
+    /// position. Refusals 2, 9, 10 and 13.
+    pub fn back(&mut self, register: &[u8], steps: usize) -> Result<usize, Refusal> {
+        let (walk, answer) = lent::back(
+            self.walk,
+            &self.sheet,
+            register,
+            &mut self.defaults,
+            &mut self.premiums,
+            steps,
+        );
+        self.walk = walk;
+        answer
+    }
+
+    /// What a tranche, 0 to tranches (the index), is worth at a default
+    /// count, 0 to names. Refusals 2, 9, 10 and 14.
+    pub fn value(&self, register: &[u8], tranche: usize, count: usize) -> Result<Value, Refusal> {
+        let (_, answer) = lent::value(
+            self.walk,
+            &self.sheet,
+            register,
+            &self.defaults,
+            &self.premiums,
+            tranche,
+            count,
+        );
+        answer
+    }
+
+    /// How much of the index, in millionths of the whole pool's, hedges the
+    /// whole tranche against the next default, at a default count below
+    /// names. Refusals 2, 9, 10 and 14 to 16.
+    pub fn hedge_ratio(
+        &self,
+        register: &[u8],
+        tranche: usize,
+        count: usize,
+    ) -> Result<i64, Refusal> {
+        let (_, answer) = lent::hedge_ratio(
+            self.walk,
+            &self.sheet,
+            register,
+            &self.defaults,
+            &self.premiums,
+            tranche,
+            count,
+        );
+        answer
+    }
+
+    /// The step at which the walk stands; 0 is the root.
+    pub fn position(&self) -> usize {
+        self.walk.position
+    }
+
+    pub fn sheet(&self) -> &Sheet<'a> {
+        &self.sheet
+    }
+
+    /// The default legs, tranche by tranche, the index last, each by default
+    /// count from 0 to names.
+    pub fn defaults(&self) -> &[u64] {
+        &self.defaults
+    }
+
+    /// The premium legs, in the same order.
+    pub fn premiums(&self) -> &[u64] {
+        &self.premiums
+    }
+}

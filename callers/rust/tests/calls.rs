@@ -1,0 +1,272 @@
+//! The engine judges what it is lent, and a refused call changes nothing.
+
+use lavroudem::*;
+use std::thread;
+
+/// The small sheet of the paper.
+const SHEET: Sheet = Sheet {
+    number: 7,
+    names: 2,
+    steps: 2,
+    tranches: 1,
+    recovery: 400_000_000,
+    attachments: &[0, 300_000_000],
+    hazards: &[100_000_000, 200_000_000],
+    discounts: &[1_000_000_000, 900_000_000],
+    accruals: &[0, 1_000_000_000],
+    coupons: &[1_000_000, 500_000],
+};
+
+fn issued() -> [u8; REGISTER_LENGTH] {
+    let mut register = BLANK_REGISTER;
+    issue(&mut register, SHEET.number).unwrap();
+    register
+}
+
+/// Everything that the calls are lent.
+#[derive(Clone, Debug, PartialEq)]
+struct Lent {
+    sheet: Sheet<'static>,
+    register: Vec<u8>,
+    walk: Walk,
+    defaults: Vec<u64>,
+    premiums: Vec<u64>,
+    row: Vec<u64>,
+}
+
+/// One step from the root.
+fn lent() -> Lent {
+    let mut lent = Lent {
+        sheet: SHEET,
+        register: issued().to_vec(),
+        walk: Walk::FRESH,
+        defaults: vec![u64::MAX; SHEET.row_length()],
+        premiums: vec![u64::MAX; SHEET.row_length()],
+        row: vec![5; SHEET.forward_row_length()],
+    };
+    assert_eq!(open(&mut lent), Ok(()));
+    assert_eq!(back(&mut lent), Ok(()));
+    lent
+}
+
+type Call = fn(&mut Lent) -> Result<(), Refusal>;
+
+fn open(l: &mut Lent) -> Result<(), Refusal> {
+    let (walk, answer) = lent::open(
+        l.walk,
+        &l.sheet,
+        &l.register,
+        &mut l.defaults,
+        &mut l.premiums,
+    );
+    l.walk = walk;
+    answer
+}
+
+fn back(l: &mut Lent) -> Result<(), Refusal> {
+    let (walk, answer) = lent::back(
+        l.walk,
+        &l.sheet,
+        &l.register,
+        &mut l.defaults,
+        &mut l.premiums,
+        1,
+    );
+    l.walk = walk;
+    answer.map(|position| assert_eq!(position, walk.position))
+}
+
+fn value(l: &mut Lent) -> Result<(), Refusal> {
+    let (walk, answer) = lent::value(
+        l.walk,
+        &l.sheet,
+        &l.register,
+        &l.defaults,
+        &l.premiums,
+        0,
+        0,
+    );
+    l.walk = walk;
+    answer.map(|_| ())
+}
+
+fn hedge_ratio(l: &mut Lent) -> Result<(), Refusal> {
+    let (walk, answer) = lent::hedge_ratio(
+        l.walk,
+        &l.sheet,
+        &l.register,
+        &l.defaults,
+        &l.premiums,
+        0,
+        0,
+    );
+    l.walk = walk;
+    answer.map(|_| ())
+}
+
+fn forward(l: &mut Lent) -> Result<(), Refusal> {
+    lent::forward(&l.sheet, &l.register, &mut l.row, 2)
+}
+
+/// The calls that are lent both rows.
+const WITH_ROWS: [Call; 4] = [open, back, value, hedge_ratio];
+
+/// Spoils what is lent; then each call is refused, and all stays as it was.
+fn refused(calls: &[Call], refusal: Refusal, spoil: impl Fn(&mut Lent)) {
+    let mut spoilt = lent();
+    spoil(&mut spoilt);
+    for call in calls {
+        let mut after = spoilt.clone();
+        assert_eq!(call(&mut after), Err(refusal), "{spoilt:?}");
+        assert_eq!(after, spoilt);
+    }
+}
+
+#[test]
+fn whole_lists_are_accepted() {
+    for call in WITH_ROWS.into_iter().chain([forward as Call]) {
+        assert_eq!(call(&mut lent()), Ok(()));
+    }
+}
+
+#[test]
+fn a_register_of_another_length() {
+    for length in [0, 255, 257] {
+        let spoil = |l: &mut Lent| l.register.resize(length, LIVE);
+        refused(&WITH_ROWS, Refusal::Length, spoil);
+        refused(&[forward], Refusal::Length, spoil);
+        let mut register = vec![UNISSUED; length];
+        assert_eq!(issue(&mut register, 7), Err(Refusal::Length));
+        assert_eq!(withdraw(&mut register, 7), Err(Refusal::Length));
+        assert_eq!(register, vec![UNISSUED; length]);
+    }
+}
+
+#[test]
+fn rows_of_another_length() {
+    for length in [0, 5, 7] {
+        refused(&WITH_ROWS, Refusal::Length, |l| {
+            l.defaults.resize(length, 0)
+        });
+        refused(&WITH_ROWS, Refusal::Length, |l| {
+            l.premiums.resize(length, 0)
+        });
+        refused(&[forward], Refusal::Length, |l| l.row.resize(length, 0));
+    }
+}
+
+#[test]
+fn lists_of_another_length() {
+    let spoils: [fn(&mut Lent); 5] = [
+        |l| l.sheet.attachments = &[],
+        |l| l.sheet.hazards = &[0],
+        |l| l.sheet.discounts = &[1, 1, 1],
+        |l| l.sheet.accruals = &[1],
+        |l| l.sheet.coupons = &[0, 0, 0],
+    ];
+    for spoil in spoils {
+        refused(&WITH_ROWS, Refusal::Length, spoil);
+        refused(&[forward], Refusal::Length, spoil);
+    }
+}
+
+#[test]
+fn a_withdrawn_number() {
+    let spoil = |l: &mut Lent| withdraw(&mut l.register, 7).unwrap();
+    refused(&WITH_ROWS, Refusal::Withdrawn, spoil);
+    refused(&[forward], Refusal::Withdrawn, spoil);
+    let mut register = issued();
+    withdraw(&mut register, 7).unwrap();
+    assert_eq!(register[7], WITHDRAWN);
+    assert_eq!(issue(&mut register, 7), Err(Refusal::Withdrawn));
+    assert_eq!(withdraw(&mut register, 7), Err(Refusal::Withdrawn));
+}
+
+#[test]
+fn walks_and_rows_of_someone_else() {
+    let later = &WITH_ROWS[1..];
+    refused(later, Refusal::NoWalk, |l| l.walk = Walk::FRESH);
+    refused(later, Refusal::NoWalk, |l| l.walk.position = 3);
+    refused(later, Refusal::Soiled, |l| l.defaults[0] = 300_000_001);
+    refused(later, Refusal::Soiled, |l| l.premiums[5] = u64::MAX);
+}
+
+#[test]
+fn an_open_walk_shows_its_rows() {
+    let register = issued();
+    let mut walk = SHEET.open(&register).unwrap();
+    assert_eq!(walk.position(), 2);
+    assert_eq!(walk.back(&register, 2), Ok(0));
+    let index = walk.value(&register, 1, 0).unwrap();
+    assert_eq!(index.default_leg, walk.defaults()[3]);
+    assert_eq!(index.premium_leg, walk.premiums()[3]);
+    assert_eq!(index.net_value, 194_250_000_000_000);
+    assert_eq!(walk.sheet(), &SHEET);
+}
+
+#[test]
+fn an_open_walk_stays_where_it_is_refused() {
+    let register = issued();
+    let mut walk = SHEET.open(&register).unwrap();
+    walk.back(&register, 1).unwrap();
+    let before = walk.clone();
+    assert_eq!(walk.back(&register, 2), Err(Refusal::OutOfSteps));
+    assert_eq!(walk.back(&BLANK_REGISTER, 1), Err(Refusal::Unissued));
+    assert_eq!(walk, before);
+    assert_eq!(walk.value(&register, 2, 0), Err(Refusal::OffTree));
+    assert_eq!(walk.hedge_ratio(&register, 0, 2), Err(Refusal::OffTree));
+}
+
+/// No row is made for a sheet that is too large to have one.
+#[test]
+fn sheets_beyond_all_limits() {
+    let register = issued();
+    for (names, tranches) in [(usize::MAX, 1), (2, usize::MAX), (126, 8), (125, 9)] {
+        let sheet = Sheet {
+            names,
+            tranches,
+            ..SHEET
+        };
+        assert_eq!(sheet.open(&register).unwrap_err(), Refusal::Pool);
+        assert_eq!(sheet.forward(&register, 1), Err(Refusal::Pool));
+    }
+    assert_eq!(SHEET.forward(&register, 3), Err(Refusal::OutOfSteps));
+}
+
+const WORKED_DECK: &[u8] = include_bytes!("../../../crates/listing/stdin");
+const WORKED_LISTING: &[u8] = include_bytes!("../../../crates/listing/stdout");
+
+#[test]
+fn the_worked_deck() {
+    assert_eq!(run_deck(WORKED_DECK), WORKED_LISTING);
+    assert_eq!(run_deck(&[0; MAX_DECK + 1]), b"deck 20 65536\n");
+    assert_eq!(run_deck(&[]), b"");
+}
+
+#[test]
+fn a_listing_without_room() {
+    let room = lent::deck_room(WORKED_DECK.len());
+    let mut out = vec![0xEE; room];
+    assert_eq!(lent::run_deck(WORKED_DECK, &mut out[1..]), None);
+    assert!(out.iter().all(|&byte| byte == 0xEE));
+    assert_eq!(lent::run_deck(WORKED_DECK, &mut out), Some(WORKED_LISTING));
+}
+
+/// The header promises that a call needs less than 256 kB of stack. A deck
+/// keeps a whole sheet there, and a step back adds most to it.
+#[test]
+fn the_largest_deck_on_a_small_stack() {
+    let mut deck = vec![0x01, 125, 0x42, 0x0E, 8, 0, 0, 0, 0, 7];
+    for j in 0..9 {
+        deck.extend([0x02, j, 0, 0, 0]);
+        deck.extend([0x05, 0, 0, 0, 0]);
+    }
+    deck.extend([0x03, 1, 0, 0, 0].repeat(125));
+    deck.extend([0x04, 1, 0, 0, 0, 1, 0, 0, 0].repeat(3_650));
+    deck.extend([0x06, 7, 0x08, 0x09, 0x42, 0x0E, 0x0B, 0, 0, 0x0C, 0, 0, 0]);
+    let thread = thread::Builder::new().stack_size(256 * 1024);
+    let listing = thread.spawn(move || run_deck(&deck)).unwrap().join();
+    let text = String::from_utf8(listing.unwrap()).unwrap();
+    let expected = "issue 0\nopen 0\nback 0 0\ndelta 0 0\nforward 0 1000000000\n";
+    assert_eq!(text, expected);
+}
