@@ -5,6 +5,10 @@
 //! length gets refusal 2 for good with one figure more. The rows lent are
 //! therefore those of one and the same sheet for all accepted calls.
 
+use crate::commands::{
+    self, Decoded, BACK, COUPON, CUT, DELTA, FORWARD, HAZARD, ISSUE, OPEN, POOL, STEP, VALUE,
+    WITHDRAW,
+};
 use crate::refusal::{refuse_if, Refusal};
 use crate::register;
 use crate::sheet::{Sheet, MAX_NAMES, MAX_STEPS, MAX_TRANCHES};
@@ -15,21 +19,6 @@ pub const MAX_DECK: usize = 65_536;
 
 /// Room for the rows of the largest tree.
 const ROW_ROOM: usize = (MAX_TRANCHES + 1) * (MAX_NAMES + 1);
-
-const POOL: u8 = 0x01;
-/// An attachment point.
-const CUT: u8 = 0x02;
-const HAZARD: u8 = 0x03;
-const STEP: u8 = 0x04;
-const COUPON: u8 = 0x05;
-const ISSUE: u8 = 0x06;
-const WITHDRAW: u8 = 0x07;
-const OPEN: u8 = 0x08;
-const BACK: u8 = 0x09;
-const VALUE: u8 = 0x0A;
-/// The hedge ratio.
-const DELTA: u8 = 0x0B;
-const FORWARD: u8 = 0x0C;
 
 type Open = fn(Walk, &Sheet, &[u8], &mut [u64], &mut [u64]) -> (Walk, Result<(), Refusal>);
 type Back =
@@ -142,110 +131,67 @@ pub fn listing_by(calls: Calls, deck: &[u8]) -> Vec<u8> {
 /// and the line it prints, which is empty for a sheet command. Checks 18, 19
 /// and 20, in that order.
 fn run_command(program: &mut Program, deck: &[u8]) -> Result<(usize, String), Refusal> {
-    let command = deck[0];
-    let width = operand_width(command).ok_or(Refusal::Unknown)?;
-    refuse_if(deck.len() < 1 + width, Refusal::CutShort)?;
-    let operands = &deck[1..1 + width];
-    let line = if command <= COUPON {
-        add_to_sheet(program, command, operands)?;
+    let read = commands::decode(deck)?;
+    let line = if read.command.is_entry() {
+        add_to_sheet(program, &read)?;
         String::new()
     } else {
-        call(program, command, operands)
+        call(program, &read)
     };
-    Ok((1 + width, line))
-}
-
-/// Bytes of all operands together; none for an unknown command.
-fn operand_width(command: u8) -> Option<usize> {
-    match command {
-        POOL => Some(1 + 2 + 1 + 4 + 1),
-        CUT | HAZARD | COUPON => Some(4),
-        STEP => Some(4 + 4),
-        ISSUE | WITHDRAW => Some(1),
-        OPEN => Some(0),
-        BACK => Some(2),
-        VALUE | DELTA => Some(1 + 1),
-        FORWARD => Some(2 + 1),
-        _ => None,
-    }
-}
-
-/// An operand: unsigned, low byte first.
-fn number(bytes: &[u8]) -> u64 {
-    let mut number = 0;
-    for &byte in bytes.iter().rev() {
-        number = 256 * number + u64::from(byte);
-    }
-    number
-}
-
-/// An operand that counts something.
-fn count(bytes: &[u8]) -> usize {
-    number(bytes) as usize
+    Ok((read.length, line))
 }
 
 /// Commands 01 to 05, with check 20. The figures are not looked at here; the
 /// calls that bring the sheet check them.
-fn add_to_sheet(program: &mut Program, command: u8, operands: &[u8]) -> Result<(), Refusal> {
+fn add_to_sheet(program: &mut Program, read: &Decoded) -> Result<(), Refusal> {
     let sheet = &mut program.sheet;
-    match command {
-        POOL => {
+    match (read.command.byte, read.operands()) {
+        (POOL, &[names, steps, tranches, recovery, number]) => {
             refuse_if(program.has_pool, Refusal::TooMany)?;
             program.has_pool = true;
-            sheet.names = count(&operands[0..1]);
-            sheet.steps = count(&operands[1..3]);
-            sheet.tranches = count(&operands[3..4]);
-            sheet.recovery = number(&operands[4..8]);
-            sheet.number = operands[8];
+            sheet.names = names as usize;
+            sheet.steps = steps as usize;
+            sheet.tranches = tranches as usize;
+            sheet.recovery = recovery;
+            sheet.number = number as u8;
             Ok(())
         }
-        CUT => add(&mut sheet.attachments, MAX_TRANCHES + 1, operands),
-        HAZARD => add(&mut sheet.hazards, MAX_NAMES, operands),
-        STEP => {
-            add(&mut sheet.discounts, MAX_STEPS, &operands[0..4])?;
-            add(&mut sheet.accruals, MAX_STEPS, &operands[4..8])
+        (CUT, &[point]) => add(&mut sheet.attachments, MAX_TRANCHES + 1, point),
+        (HAZARD, &[chance]) => add(&mut sheet.hazards, MAX_NAMES, chance),
+        (STEP, &[discount, accrual]) => {
+            add(&mut sheet.discounts, MAX_STEPS, discount)?;
+            add(&mut sheet.accruals, MAX_STEPS, accrual)
         }
-        COUPON => add(&mut sheet.coupons, MAX_TRANCHES + 1, operands),
+        (COUPON, &[rate]) => add(&mut sheet.coupons, MAX_TRANCHES + 1, rate),
         _ => unreachable!("not a sheet command"),
     }
 }
 
-fn add(list: &mut Vec<u64>, limit: usize, operand: &[u8]) -> Result<(), Refusal> {
+fn add(list: &mut Vec<u64>, limit: usize, figure: u64) -> Result<(), Refusal> {
     refuse_if(list.len() == limit, Refusal::TooMany)?;
-    list.push(number(operand));
+    list.push(figure);
     Ok(())
 }
 
 /// Commands 06 to 0C: the line each of them prints.
-fn call(program: &mut Program, command: u8, operands: &[u8]) -> String {
-    match command {
-        ISSUE => {
-            let answer = register::issue(&mut program.register, operands[0]);
-            line("issue", answer.map(|()| vec![]))
+fn call(program: &mut Program, read: &Decoded) -> String {
+    let answer = match (read.command.byte, read.operands()) {
+        (ISSUE, &[number]) => register::issue(&mut program.register, number as u8).map(|()| vec![]),
+        (WITHDRAW, &[number]) => {
+            register::withdraw(&mut program.register, number as u8).map(|()| vec![])
         }
-        WITHDRAW => {
-            let answer = register::withdraw(&mut program.register, operands[0]);
-            line("withdraw", answer.map(|()| vec![]))
+        (OPEN, &[]) => open(program).map(|()| vec![]),
+        (BACK, &[steps]) => back(program, steps as usize).map(|position| vec![position as i128]),
+        (VALUE, &[tranche, count]) => value(program, tranche as usize, count as usize),
+        (DELTA, &[tranche, count]) => {
+            delta(program, tranche as usize, count as usize).map(|ratio| vec![ratio])
         }
-        OPEN => line("open", open(program).map(|()| vec![])),
-        BACK => {
-            let answer = back(program, count(operands));
-            line("back", answer.map(|position| vec![position as i128]))
-        }
-        VALUE => {
-            let answer = value(program, count(&operands[0..1]), count(&operands[1..2]));
-            line("value", answer)
-        }
-        DELTA => {
-            let answer = delta(program, count(&operands[0..1]), count(&operands[1..2]));
-            line("delta", answer.map(|ratio| vec![ratio]))
-        }
-        FORWARD => {
-            let answer = forward(program, count(&operands[0..2]), count(&operands[2..3]));
-            line("forward", answer.map(|chance| vec![i128::from(chance)]))
+        (FORWARD, &[step, count]) => {
+            forward(program, step as usize, count as usize).map(|chance| vec![i128::from(chance)])
         }
         _ => unreachable!("not a call"),
-    }
+    };
+    line(read.command.word, answer)
 }
 
 fn open(program: &mut Program) -> Result<(), Refusal> {

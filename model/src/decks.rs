@@ -1,14 +1,12 @@
 //! Random decks by seed: whole ones, and ones with a limit broken, damaged,
 //! cut short, reordered, oversized or of noise.
 
+use crate::commands::COMMANDS;
 use crate::deck::MAX_DECK;
 use crate::random::Random;
 use crate::sheet::{Sheet, MAX_NAMES, MAX_STEPS, MAX_TRANCHES};
 
 const B: u64 = 1_000_000_000;
-
-/// Widths of the operands of commands 01 to 0C, in bytes.
-const WIDTHS: [usize; 12] = [9, 4, 4, 8, 4, 1, 1, 0, 2, 2, 2, 3];
 
 /// A deck as its commands, with their operands.
 type Commands = Vec<Vec<u8>>;
@@ -254,9 +252,9 @@ fn shuffle(random: &mut Random, commands: &mut Commands) {
 fn noise(random: &mut Random) -> Vec<u8> {
     let mut deck = Vec::new();
     for _ in 0..random.below(30) {
-        let command = random.below(WIDTHS.len());
-        deck.push(command as u8 + 1);
-        for _ in 0..WIDTHS[command] {
+        let command = &COMMANDS[random.below(COMMANDS.len())];
+        deck.push(command.byte);
+        for _ in 0..command.width() {
             let small = random.one_in(2);
             let byte = random.draw() as u8;
             deck.push(if small { byte % 4 } else { byte });

@@ -9,7 +9,10 @@
 //! - [`tree`]: rolling rows back, net values, hedge ratios, default counts
 //! - [`register`]: which sheet numbers are live, and what a power loss leaves
 //! - [`walk`]: the calls with everything lent to them and all their refusals
+//! - [`commands`]: the commands of a deck, by byte and by word
 //! - [`deck`]: the command deck and its printed listing
+//! - [`text`]: a deck as text, and back
+//! - [`table`]: a deck and its listing as a table for people
 //! - [`natural`]: whole numbers of any size
 //! - [`exact`]: unrounded values by brute force over lists of moves
 //! - [`trials`]: the trial entries that the engine's program runs
@@ -23,6 +26,7 @@
 //! its "cuts". Tranche number r stands for the index throughout.
 
 pub mod cash;
+pub mod commands;
 pub mod deck;
 pub mod decks;
 #[cfg(feature = "engine")]
@@ -34,6 +38,8 @@ pub mod random;
 pub mod refusal;
 pub mod register;
 pub mod sheet;
+pub mod table;
+pub mod text;
 pub mod tree;
 pub mod trials;
 pub mod walk;

@@ -27,6 +27,30 @@ pub enum Refusal {
 }
 
 impl Refusal {
+    /// In the order of their numbers, from 1.
+    pub const ALL: [Refusal; 20] = [
+        Refusal::Pool,
+        Refusal::Length,
+        Refusal::Recovery,
+        Refusal::Cuts,
+        Refusal::Hazard,
+        Refusal::Discount,
+        Refusal::Accrual,
+        Refusal::Coupon,
+        Refusal::Withdrawn,
+        Refusal::Unissued,
+        Refusal::NoWalk,
+        Refusal::Soiled,
+        Refusal::OutOfSteps,
+        Refusal::OffTree,
+        Refusal::FlatHedge,
+        Refusal::OffScale,
+        Refusal::Live,
+        Refusal::Unknown,
+        Refusal::CutShort,
+        Refusal::TooMany,
+    ];
+
     pub fn number(self) -> u8 {
         self as u8
     }

@@ -177,8 +177,8 @@ pub fn jump(sheet: &Sheet, rows: &Rows, tranche: usize, count: usize) -> i128 {
     COUPON_SCALE * (payment + next_default - default) - coupon * (next_premium - premium)
 }
 
-/// Index nominal that offsets one of the tranche at the next default, in
-/// millionths.
+/// How much of the index offsets the whole tranche at the next default, in
+/// millionths of the whole pool's.
 pub fn hedge_ratio(
     sheet: &Sheet,
     rows: &Rows,

@@ -110,8 +110,9 @@ pub fn value(
     (walk, answer())
 }
 
-/// Index nominal for one of the tranche, in millionths. Nothing in document
-/// 01 keeps the index itself from being asked for.
+/// How much of the index offsets the whole tranche, in millionths of the
+/// whole pool's. Nothing in document 01 keeps the index itself from being
+/// asked for.
 pub fn hedge_ratio(
     walk: Walk,
     sheet: &Sheet,

@@ -1,0 +1,366 @@
+//! Holds `docs/PROMISES.md` to the tree: every cited file and name is there,
+//! every count is right, and the worked hedge has the model's figures.
+
+mod definitions;
+
+use definitions::{counts, spec_files, Definitions, Key};
+use lavroudem_model::cash::{default_payment, half, outstanding, pool_loss, tranche_loss};
+use lavroudem_model::sheet::{Sheet, B};
+use lavroudem_model::tree::{
+    default_leg, hedge_ratio, jump, net_value, premium_leg, ratio_in_millionths, roll_back, Rows,
+};
+use lavroudem_model::worked;
+use std::collections::{BTreeMap, BTreeSet};
+use std::fs;
+use std::path::{Path, PathBuf};
+
+fn root() -> PathBuf {
+    Path::new(env!("CARGO_MANIFEST_DIR")).join("..")
+}
+
+fn page() -> String {
+    fs::read_to_string(root().join("docs/PROMISES.md")).unwrap()
+}
+
+// ---- citations
+
+/// A file that the page names, with the names that it is said to declare and
+/// the text right behind the citation.
+struct Citation<'a> {
+    path: &'a str,
+    names: Vec<&'a str>,
+    behind: &'a str,
+}
+
+/// Code spans that name a file: `path` or `path: name, name`.
+fn citations(page: &str) -> Vec<Citation<'_>> {
+    let parts: Vec<&str> = page.split('`').collect();
+    assert_eq!(parts.len() % 2, 1, "a code span is left open");
+    let pairs = parts.chunks_exact(2); // prose, then a span
+    pairs.filter_map(|pair| cited(page, pair[1])).collect()
+}
+
+fn cited<'a>(page: &'a str, span: &'a str) -> Option<Citation<'a>> {
+    let (path, names) = span.split_once(": ").unwrap_or((span, ""));
+    let ending = Path::new(path).extension()?.to_str()?;
+    let is_file = ["antt", "rt", "edit", "rs", "md"].contains(&ending);
+    let start = span.as_ptr() as usize - page.as_ptr() as usize;
+    (is_file && path.contains('/') && !path.contains(' ')).then(|| Citation {
+        path,
+        names: names.split(", ").filter(|name| !name.is_empty()).collect(),
+        behind: &page[start + span.len() + 1..],
+    })
+}
+
+/// A path stands below the repository's root, or below `crates/`.
+fn place(path: &str) -> PathBuf {
+    let at_root = root().join(path);
+    if at_root.exists() {
+        at_root
+    } else {
+        root().join("crates").join(path)
+    }
+}
+
+/// Whether a line declares a name: nothing but marks stands before it.
+fn declares(line: &str, name: &str) -> bool {
+    let marks = [
+        "unfoldable",
+        "abbrev",
+        "pub",
+        "record",
+        "data",
+        "fn",
+        "struct",
+        "enum",
+        "const",
+        "ensures",
+        "mod",
+        "extern",
+        "\"C\"",
+    ];
+    let apart = |c: char| c.is_whitespace() || "(){}<>;,".contains(c);
+    let mut words = line.split(apart).filter(|word| !word.is_empty());
+    words.find(|word| !marks.contains(word)) == Some(name)
+}
+
+#[test]
+fn cited_files_declare_the_cited_names() {
+    let page = page();
+    let citations = citations(&page);
+    assert!(citations.len() > 100, "the page's citations are not found");
+    for citation in citations {
+        let path = place(citation.path);
+        let text = fs::read_to_string(&path);
+        let text = text.unwrap_or_else(|_| panic!("no file {}", citation.path));
+        for name in citation.names {
+            let found = text.lines().any(|line| declares(line, name));
+            assert!(found, "{} declares no {name}", citation.path);
+        }
+    }
+}
+
+// ---- counts
+
+/// `(12 definitions, 34 lines)` behind a citation.
+fn counted(behind: &str) -> Option<(usize, usize)> {
+    let inside = behind.strip_prefix(" (")?.split_once(')')?.0;
+    let (definitions, lines) = inside.split_once(" definitions, ")?;
+    let lines = lines.strip_suffix(" lines")?;
+    Some((definitions.parse().ok()?, lines.parse().ok()?))
+}
+
+/// Run with `--nocapture` it prints the definitions below each statement.
+#[test]
+fn statements_rest_on_as_much_as_is_said() {
+    let page = page();
+    let definitions = Definitions::read(&root().join("crates"));
+    let mut wrong = Vec::new();
+    let mut found = 0;
+    for citation in citations(&page) {
+        let Some(said) = counted(citation.behind) else {
+            continue;
+        };
+        let key = (citation.path.to_string(), citation.names[0].to_string());
+        let below = definitions.below(key.clone());
+        let is = (below.len(), definitions.lines(&below));
+        print_below(&key, is, &below);
+        if is != said {
+            wrong.push((key, is));
+        }
+        found += 1;
+    }
+    assert!(found > 10, "the page's counts are not found");
+    assert!(wrong.is_empty(), "other counts: {wrong:?}");
+}
+
+fn print_below(key: &Key, count: (usize, usize), below: &BTreeSet<Key>) {
+    println!(
+        "{}: {} ({} definitions, {} lines)",
+        key.0, key.1, count.0, count.1
+    );
+    let mut files: BTreeMap<&str, Vec<&str>> = BTreeMap::new();
+    for (file, name) in below {
+        files.entry(file).or_default().push(name);
+    }
+    for (file, names) in files {
+        println!("    {file}: {}", names.join(", "));
+    }
+}
+
+/// Rows of the page's table of files: path, lines, purpose.
+#[test]
+fn table_of_definitions_is_whole() {
+    let crates = root().join("crates");
+    let page = page();
+    let mut total = 0;
+    for path in spec_files(&crates) {
+        let file = path.strip_prefix(&crates).unwrap().to_str().unwrap();
+        if file.ends_with("/Lib.antt") {
+            continue; // names the others, and defines nothing
+        }
+        let text = fs::read_to_string(&path).unwrap();
+        let lines = text.lines().filter(|line| counts(line)).count();
+        let row = format!("| `{file}` | {lines} |");
+        assert!(page.contains(&row), "the table lacks {row}");
+        total += lines;
+    }
+    let sum = format!("{total} lines in all");
+    assert!(page.contains(&sum), "the page lacks \"{sum}\"");
+}
+
+// ---- the worked hedge
+
+/// A whole number with commas.
+fn commas(number: i128) -> String {
+    let digits = number.unsigned_abs().to_string();
+    let mut text = String::new();
+    for (place, digit) in digits.chars().enumerate() {
+        if place > 0 && (digits.len() - place) % 3 == 0 {
+            text.push(',');
+        }
+        text.push(digit);
+    }
+    if number < 0 {
+        format!("-{text}")
+    } else {
+        text
+    }
+}
+
+/// Millionths of a euro in euro with so many decimals, which must be enough.
+fn euro(millionths: i128, places: u32) -> String {
+    let step = 10_i128.pow(6 - places);
+    assert_eq!(millionths % step, 0, "more decimals are needed");
+    let size = millionths.abs();
+    let fraction = size % 1_000_000 / step;
+    let sign = if millionths < 0 { "-" } else { "" };
+    let width = places as usize;
+    format!("{sign}{}.{fraction:0width$}", commas(size / 1_000_000))
+}
+
+fn assert_on_page(lines: &[String]) {
+    let page = page();
+    for line in lines {
+        assert!(page.contains(line), "the page lacks: {line}");
+    }
+}
+
+fn rows_at(sheet: &Sheet, position: usize) -> Rows {
+    let mut rows = Rows::zero(sheet);
+    roll_back(sheet, &mut rows, sheet.steps, sheet.steps - position);
+    rows
+}
+
+/// The value that a row of one of the page's two tables ends with.
+#[test]
+fn rows_of_the_worked_deck_are_the_models() {
+    let sheet = worked::sheet();
+    let page = page();
+    for position in [1, 0] {
+        let rows = rows_at(&sheet, position);
+        for (name, tranche) in [("tranche", 0), ("index", 1)] {
+            for count in [0, 1] {
+                let start = format!("| D and A of the {name} at ({position}, {count}) |");
+                let line = page.lines().find(|line| line.starts_with(&start));
+                let line = line.unwrap_or_else(|| panic!("no row {start}"));
+                let cells: Vec<&str> = line.split('|').map(str::trim).collect();
+                let last = |cell: &str| cell.rsplit("= ").next().unwrap().to_string();
+                let default = default_leg(&sheet, &rows, tranche, count) as i128;
+                let premium = premium_leg(&sheet, &rows, tranche, count) as i128;
+                assert_eq!(last(cells[2]), commas(default), "{start}");
+                assert_eq!(last(cells[3]), commas(premium), "{start}");
+            }
+        }
+    }
+}
+
+#[test]
+fn losses_of_the_worked_deck_are_the_models() {
+    let sheet = worked::sheet();
+    let list = |figure: &dyn Fn(usize) -> u128| {
+        let figures: Vec<String> = (0..=2).map(|k| commas(figure(k) as i128)).collect();
+        figures.join(" | ")
+    };
+    let mut lines = vec![format!(
+        "| L, pool loss | {} |",
+        list(&|k| pool_loss(&sheet, k))
+    )];
+    for (name, tranche) in [("tranche", 0), ("index", 1)] {
+        let loss = list(&|k| tranche_loss(&sheet, tranche, k));
+        let left = list(&|k| outstanding(&sheet, tranche, k));
+        lines.push(format!("| M of the {name}, its loss | {loss} |"));
+        lines.push(format!("| O of the {name}, outstanding | {left} |"));
+    }
+    assert_on_page(&lines);
+}
+
+/// J as the page writes it out, from the count 0 at the root.
+fn written_jump(name: &str, sheet: &Sheet, rows: &Rows, tranche: usize) -> String {
+    let d = |count| commas(default_leg(sheet, rows, tranche, count) as i128);
+    let a = |count| commas(premium_leg(sheet, rows, tranche, count) as i128);
+    format!(
+        "J of the {name} = 10,000,000 × ({} + {} - {}) - {} × ({} - {}) = {}",
+        commas(default_payment(sheet, tranche, 0) as i128),
+        d(1),
+        d(0),
+        commas(sheet.coupon(tranche) as i128),
+        a(1),
+        a(0),
+        commas(jump(sheet, rows, tranche, 0)),
+    )
+}
+
+#[test]
+fn jumps_and_ratio_are_the_models() {
+    let sheet = worked::sheet();
+    let rows = rows_at(&sheet, 0);
+    let ratio = hedge_ratio(&sheet, &rows, 0, 0).unwrap();
+    let next = hedge_ratio(&sheet, &rows, 0, 1).unwrap();
+    let [tranche, index] = [0, 1].map(|tranche| jump(&sheet, &rows, tranche, 0));
+    let units = |jump: i128| commas(jump / 10_000_000);
+    assert_eq!(ratio * 10 % 3, 0, "the tranche is three tenths of the pool");
+    assert_on_page(&[
+        written_jump("tranche", &sheet, &rows, 0),
+        written_jump("index", &sheet, &rows, 1),
+        format!("{} and {} units", units(tranche), units(index)),
+        format!("0.{:08}..", tranche * 100_000_000 / index),
+        format!("`delta 0 0` answers `delta 0 {ratio}`"),
+        format!("`delta 0 1` answers `delta 0 {next}`"),
+        format!("0.{ratio} of the pool"),
+        format!("{} euro of index nominal", commas(ratio * 1_000)),
+        format!("{} euro of index", euro(ratio * 10 / 3, 5)),
+    ]);
+}
+
+/// The books at the next default: a row of the page for each line of them.
+#[test]
+fn books_at_the_next_default_are_the_models() {
+    let sheet = worked::sheet();
+    let rows = rows_at(&sheet, 0);
+    let ratio = hedge_ratio(&sheet, &rows, 0, 0).unwrap();
+    let row = |name: &str, tranche: i128, index: i128| {
+        let sold = -tranche * 1_000_000;
+        let bought = index * ratio;
+        let cells = [sold, bought, sold + bought].map(|cell| euro(cell, 2));
+        format!("| {name} | {} |", cells.join(" | "))
+    };
+    let paid = |tranche| default_payment(&sheet, tranche, 0) as i128;
+    let worth = |tranche, count| net_value(&sheet, &rows, tranche, count) / 10_000_000;
+    let gain = |tranche| jump(&sheet, &rows, tranche, 0) / 10_000_000;
+    assert_on_page(&[
+        row("Paid for the default", paid(0), paid(1)),
+        row("Value before it", worth(0, 0), worth(1, 0)),
+        row("Value after it", worth(0, 1), worth(1, 1)),
+        row("Gain or loss", gain(0), gain(1)),
+        format!("at most {} euro", euro(gain(1) / 2, 4)),
+    ]);
+    for tranche in [0, 1] {
+        let change = worth(tranche, 1) - worth(tranche, 0);
+        assert_eq!(paid(tranche) + change, gain(tranche));
+    }
+}
+
+/// The index's premium legs at the root for other outstanding nominals, to
+/// show what a wrong rule costs.
+fn other_premium_legs(sheet: &Sheet, left: &[u128]) -> Vec<u128> {
+    let mut legs = vec![0; left.len()];
+    for step in (1..=sheet.steps).rev() {
+        let with_payment = |k: usize| legs[k] + half(sheet.accrual(step) * left[k]);
+        let expected = |k: usize| {
+            let next = if k < sheet.names {
+                with_payment(k + 1)
+            } else {
+                0
+            };
+            half(sheet.hazard(k) * next + sheet.survival(k) * with_payment(k))
+        };
+        let before = (0..left.len()).map(|k| half(sheet.discount(step) * expected(k)));
+        legs = before.collect();
+    }
+    legs
+}
+
+#[test]
+fn cost_of_wrong_ratios_is_the_models() {
+    let sheet = worked::sheet();
+    let rows = rows_at(&sheet, 0);
+    let left: Vec<u128> = (0..=2).map(|k| B - pool_loss(&sheet, k)).collect();
+    let legs = other_premium_legs(&sheet, &left);
+    let right = [0, 1].map(|k| premium_leg(&sheet, &rows, 1, k) as i128);
+    let moved = (legs[1] as i128 - legs[0] as i128) - (right[1] - right[0]);
+    let index = jump(&sheet, &rows, 1, 0);
+    let other = index - sheet.coupon(1) as i128 * moved;
+    let wrong = ratio_in_millionths(jump(&sheet, &rows, 0, 0), other).unwrap();
+    let tranche_loss = jump(&sheet, &rows, 0, 0) / 10_000_000 * 1_000_000;
+    let bought = wrong * (index / 10_000_000);
+    assert_on_page(&[
+        format!("0.{wrong}"),
+        format!("{} euro too much", euro(bought - tranche_loss, 2)),
+        format!(
+            "{} euro, just over four basis points",
+            euro(325 * (index / 10_000_000), 3)
+        ),
+    ]);
+    assert!(325 * (index / 10_000_000) > 4 * 300_000_000 / 10_000 * 1_000_000);
+}
