@@ -9,7 +9,7 @@ use lib.Dec.{eqb}
 use Rattle.register.specs.declared.answers.Answer.{Answer}
 use Rattle.register.specs.Register.{numberOf, withdraw, answerOf, isAccepted, leavesOf}
 use Rattle.register.specs.Events.{returned, after, Lasts}
-use Rattle.register.proofs.Rules.{left, Meets}
+use Rattle.register.proofs.Rules.{Meets}
 use Rattle.register.proofs.Cuts.{accepts}
 use Rattle.register.proofs.Forever.{Zero, starts, keeps-all, gone}
 
@@ -18,6 +18,6 @@ accepted register x t =
     starts register (accepts withdraw register x t .0) (returned withdraw x) x
     (ap (λ (b : Bool). b && isAccepted (answerOf withdraw register x)) (eq-eqb x x refl) ∙ t)
 
-pub lasts : (register : List ℕ) (x : ℕ) {a : Answer} → Meets withdraw register x a → numberOf a ≡ 0 → Lasts (left withdraw register x a) x
-lasts register x {a} m e es h =
+pub lasts : (register : List ℕ) (x : ℕ) {a : Answer} {l : List ℕ} → Meets withdraw register x a l → numberOf a ≡ 0 → Lasts l x
+lasts register x m e es h =
     gone (keeps-all (subst (λ (l : List ℕ). Zero l x) (sym (m .1 .0)) (accepted register x (eq-eqb _ 0 (ap numberOf (sym (m .0)) ∙ e)))) es h)

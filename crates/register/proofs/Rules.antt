@@ -1,11 +1,14 @@
 -- Issue and withdraw, as specs/Register.antt computes them, keep document 01's rules, and nothing else does.
 -- Assumes nothing.
-use mathlib.Core.Path.{_≡_, sym, _∙_, ap, subst}
-use mathlib.Core.Logic.{_≢_}
-use mathlib.Core.List.{List}
+use mathlib.Core.Path.{_≡_, refl, sym, _∙_, ap, subst}
+use mathlib.Core.Logic.{_≢_, ⊎-elim}
+use mathlib.Core.List.{List, [], _∷_}
 use Prim.Native.Nat.{ℕ}
 use native.Mathlib.Decide.{ℕ-discrete}
+use native.Mathlib.Omega.{arith}
 use borrow.Author.Tests.{eq-eqb, ne-eqb}
+use types.Run.{OneOf}
+use denote.Enum.Declared.{tagOf}
 use lib.ListN.{length, getD, set}
 use Rattle.register.specs.declared.answers.Status.{Status}
 use Rattle.register.specs.declared.answers.Status.the-variants as Status
@@ -13,6 +16,7 @@ use Rattle.register.specs.declared.answers.Answer.{Answer}
 use Rattle.register.specs.declared.answers.Answer.the-variants as Answer
 use Rattle.register.specs.Register.{choose, statusIn, numberOf, Write, issue, withdraw, byStatus, byteOf, answerOf, isAccepted, leavesOf}
 use Rattle.register.specs.Rules.{Unissued, Live, Withdrawn, Issues, Withdraws}
+use Rattle.register.proofs.answers.Answer.{the-type}
 
 -- The register that a call leaves where it answers a.
 abbrev pub left : Write → List ℕ → ℕ → Answer → List ℕ
@@ -64,18 +68,33 @@ rules withdraw register x =
 
 -- ---- the contracts: one law for issue and withdraw
 
-abbrev pub Meets : Write → List ℕ → ℕ → Answer → Type 0
-Meets w register x a = (a ≡ answerOf w register x) × ((left w register x a ≡ leavesOf w register x) × Rule w register x (numberOf a) (left w register x a))
+-- What is said of an answer and of the register that is left with it.
+abbrev pub Meets : Write → List ℕ → ℕ → Answer → List ℕ → Type 0
+Meets w register x a l = (a ≡ answerOf w register x) × ((l ≡ leavesOf w register x) × Rule w register x (numberOf a) l)
 
 module _ (w : Write) (register : List ℕ) (x : ℕ) where
-  meets : {a : Answer} → answerOf w register x ≡ a → Meets w register x a
-  meets e = (sym e, (ap (left w register x) (sym e), subst (λ (a : Answer). Rule w register x (numberOf a) (left w register x a)) e (rules w register x)))
+  pub meets : {a : Answer} {l : List ℕ} → a ≡ answerOf w register x → l ≡ left w register x a → Meets w register x a l
+  meets {a} e k =
+      let leaves = k ∙ ap (left w register x) e in
+      let rule = subst (λ (b : Answer). Rule w register x (numberOf b) (leavesOf w register x)) (sym e) (rules w register x) in
+      (e, (leaves, subst (Rule w register x (numberOf a)) (sym leaves) rule))
 
-  pub meets-length : length register ≢ 256 → Meets w register x Answer.Length
-  meets-length h = meets (of-length w register x h)
+  -- An answer other than Accepted leaves the register.
+  pub kept : (a : Answer) → OneOf (1 ∷ 2 ∷ 3 ∷ 4 ∷ []) (tagOf the-type a) → register ≡ left w register x a
+  kept Answer.Accepted t = absurd (⊎-elim (λ (z : _≡_ {A = ℕ} 0 1). omega arith)
+      (⊎-elim (λ (z : _≡_ {A = ℕ} 0 2). omega arith) (⊎-elim (λ (z : _≡_ {A = ℕ} 0 3). omega arith) (λ (z : _≡_ {A = ℕ} 0 4). omega arith))) t)
+  kept Answer.Length t = refl
+  kept Answer.Withdrawn t = refl
+  kept Answer.Unissued t = refl
+  kept Answer.Live t = refl
 
-  pub meets-status : length register ≡ 256 → {s : Status} → statusIn register x ≡ s → Meets w register x (byStatus w s)
-  meets-status h e = meets (of-status w register x h e)
+  -- Every answer but 2 tells the length.
+  pub of-size : {a : Answer} → a ≡ answerOf w register x → numberOf a ≢ 2 → length register ≡ 256
+  of-size e n = go (ℕ-discrete (length register) 256)
+    where
+      go : Dec (length register ≡ 256) → length register ≡ 256
+      go (yes h) = h
+      go (no h) = absurd (n (ap numberOf (e ∙ of-length w register x h)))
 
 -- ---- nothing else keeps the rules
 

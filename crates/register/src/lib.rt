@@ -4,6 +4,8 @@ pub mod answers;
 pub use answers::Answer;
 pub use answers::Status;
 ghost use mathlib.Core.Path.{_≡_};
+ghost use Prim.Native.Nat.{_<_};
+ghost use lib.ListN.{length, set};
 ghost use Rattle.register.specs.Register.{
   statusOf,
   statusIn,
@@ -52,11 +54,9 @@ pub fn status(register: &[u8], number: u8) -> Status
     }
 }
 
-// Writes A5 over FF.
-pub fn issue(register: &mut [u8], number: u8) -> Answer
-    ensures answer { λ r. ⌜ r ≡ issueAnswer (now (register .entry)) number ⌝ }
-    ensures leaves { λ r. ⌜ now (register .exit) ≡ issueLeaves (now (register .entry)) number ⌝ }
-    ensures rule { λ r. ⌜ Issues (now (register .entry)) number (numberOf r) (now (register .exit)) ⌝ }
+// What issue answers. A judgement is lent the register only to read.
+fn judge_issue(register: &[u8], number: u8) -> Answer
+    ensures { λ r. ⌜ r ≡ issueAnswer (now (register .entry)) number ⌝ }
 {
     if register.len() != SIZE {
         return Answer::Length;
@@ -65,19 +65,13 @@ pub fn issue(register: &mut [u8], number: u8) -> Answer
     match found {
         Status::Withdrawn => Answer::Withdrawn,
         Status::Live => Answer::Live,
-        Status::Unissued => {
-            register[number as usize] = LIVE;
-            Answer::Accepted
-        }
+        Status::Unissued => Answer::Accepted,
     }
 }
 
-// Writes 00 over A5.
-pub fn withdraw(register: &mut [u8], number: u8) -> Answer
-    ensures answer { λ r. ⌜ r ≡ withdrawAnswer (now (register .entry)) number ⌝ }
-    ensures leaves { λ r. ⌜ now (register .exit) ≡ withdrawLeaves (now (register .entry)) number ⌝ }
-    ensures rule { λ r. ⌜ Withdraws (now (register .entry)) number (numberOf r) (now (register .exit)) ⌝ }
-    ensures lasts { λ r. ⌜ (numberOf r ≡ 0 → Lasts (now (register .exit)) number) ⌝ }
+// What withdraw answers.
+fn judge_withdraw(register: &[u8], number: u8) -> Answer
+    ensures { λ r. ⌜ r ≡ withdrawAnswer (now (register .entry)) number ⌝ }
 {
     if register.len() != SIZE {
         return Answer::Length;
@@ -86,11 +80,45 @@ pub fn withdraw(register: &mut [u8], number: u8) -> Answer
     match found {
         Status::Withdrawn => Answer::Withdrawn,
         Status::Unissued => Answer::Unissued,
-        Status::Live => {
-            register[number as usize] = CLEARED;
-            Answer::Accepted
-        }
+        Status::Live => Answer::Accepted,
     }
+}
+
+// Stores one byte, once: the one place that writes a register.
+fn store(register: &mut [u8], number: u8, byte: u8)
+    requires { ⌜ number < length (now register) ⌝ }
+    ensures { λ _. ⌜ now (register .exit) ≡ set (now (register .entry)) number byte ⌝ }
+{
+    register[number as usize] = byte;
+}
+
+// Writes A5 over FF. Only an accepted call stores, so that power can cut no write of a refused one.
+pub fn issue(register: &mut [u8], number: u8) -> Answer
+    ensures answer { λ r. ⌜ r ≡ issueAnswer (now (register .entry)) number ⌝ }
+    ensures leaves { λ r. ⌜ now (register .exit) ≡ issueLeaves (now (register .entry)) number ⌝ }
+    ensures rule { λ r. ⌜ Issues (now (register .entry)) number (numberOf r) (now (register .exit)) ⌝ }
+{
+    let answer = judge_issue(register, number);
+    match answer {
+        Answer::Accepted => store(register, number, LIVE),
+        _ => {}
+    }
+    answer
+}
+
+// Writes 00 over A5, and stores as issue does.
+pub fn withdraw(register: &mut [u8], number: u8) -> Answer
+    ensures answer { λ r. ⌜ r ≡ withdrawAnswer (now (register .entry)) number ⌝ }
+    ensures leaves { λ r. ⌜ now (register .exit) ≡ withdrawLeaves (now (register .entry)) number ⌝ }
+    ensures rule { λ r. ⌜ Withdraws (now (register .entry)) number (numberOf r) (now (register .exit)) ⌝ }
+    ensures lasts { λ r. ⌜ (numberOf r ≡ 0 → Lasts (now (register .exit)) number) ⌝ }
+{
+    let answer = judge_withdraw(register, number);
+    match answer {
+        Answer::Accepted => store(register, number, CLEARED),
+        _ => {}
+    }
+    answer
 }
 
 // Whether a write of `new` over `old` that power cuts may leave `found`: no bit is set, and none that `new` has is cleared.

@@ -1,65 +1,49 @@
--- `register::issue` meets its contract: by the length, then by what `status` told of the number. Assumes nothing.
-use mathlib.Core.Path.{_≡_, sym, _∙_}
+-- `register::issue` meets its contract: where the judgement is Accepted by what `store` left, else nothing was stored. Assumes nothing.
+use mathlib.Core.Path.{_≡_, sym, _∙_, ap}
+use native.Mathlib.Omega.{arith}
 use borrow.Author.Needs.{needs}
-use Rattle.register.specs.declared.answers.Status.{Status}
-use Rattle.register.specs.Register.{issue, byStatus}
-use Rattle.register.proofs.Rules.{Meets, meets-length, meets-status}
+use lib.ListN.{set}
+use Rattle.register.specs.Register.{issue, numberOf}
+use Rattle.register.proofs.Rules.{left, meets, kept, of-size}
 use Rattle.register.proofs.issue.Statement.{statement}
 use Rattle.register.proofs.issue.Tie as tie
 
-returns : tie.Need-returns
-returns c = let a = c .before .before .args in meets-length issue (a .register .now) (a .number) (c .if1 .taken)
-
-status-requires : tie.Need-status-requires
-status-requires c κs = search needs
+judge-issue-requires : tie.Need-judge-issue-requires
+judge-issue-requires c κs = search needs
 
 enum-told : tie.Need-enum-told
 enum-told c = search needs
 
-enum-told-2 : tie.Need-enum-told-2
-enum-told-2 c = search needs
-
-enum-told-3 : tie.Need-enum-told-3
-enum-told-3 c = search needs
-
-slice-write-register : tie.Need-slice-write-register
-slice-write-register c = search needs
-
--- where a status was found
-found : (p : tie.After-status) {s : Status} → p .status .result ≡ s → Meets issue (p .before .before .before .before .args .register .now) (p .before .before .before .before .args .number) (byStatus issue s)
-found p e = let a = p .before .before .before .before .args in meets-status issue (a .register .now) (a .number) (p .before .before .if1 .left) (sym (p .status .ensures) ∙ e)
+store-requires : tie.Need-store-requires
+store-requires c κs =
+    let s = c .before .before .before .before .before .before in
+    let told = c .before .enum-told .given .1 in
+    let judged = c .before .before .before .judge-issue in
+    let size = of-size issue (s .args .register .now) (s .args .number) (judged .ensures) (λ z. omega (arith, ap numberOf told)) in
+    omega (arith, s .fits .number .fits)
 
 same-length : tie.Need-same-length
 same-length c = search needs
 
-returns-2 : tie.Need-returns-2
-returns-2 c = found (c .before .before) (c .enum-told .given .1)
+returns : tie.Need-returns
+returns c =
+    let a = c .before .before .before .before .before .before .before .before .before .args in
+    let judged = c .before .before .before .before .before .before .judge-issue in
+    let told = c .before .before .before .before .enum-told .given .1 in
+    let stored : c .before .before .store .last .0 ≡ set (a .register .now) (a .number) 0xA5 = c .before .before .store .ensures in
+    let leaves : set (a .register .now) (a .number) 0xA5 ≡ left issue (a .register .now) (a .number) (judged .result) =
+    ap (left issue (a .register .now) (a .number)) (sym told) in
+    meets issue (a .register .now) (a .number) (judged .ensures) (stored ∙ leaves)
 
 same-length-2 : tie.Need-same-length-2
 same-length-2 c = search needs
 
-returns-3 : tie.Need-returns-3
-returns-3 c = found (c .before .before) (c .enum-told2 .given .1)
-
-same-length-3 : tie.Need-same-length-3
-same-length-3 c = search needs
-
-returns-4 : tie.Need-returns-4
-returns-4 c = found (c .before .before) (c .enum-told3 .given .1)
+returns-2 : tie.Need-returns-2
+returns-2 c =
+    let a = c .before .before .before .before .args in
+    let judged = c .before .judge-issue in
+    let unstored = kept issue (a .register .now) (a .number) (judged .result) (c .match .keys2) in
+    meets issue (a .register .now) (a .number) (judged .ensures) unstored
 
 pub issue-spec : {M : Type 1} → statement M
-issue-spec =
-    tie.close
-    (tie.spec
-    returns
-    status-requires
-    enum-told
-    enum-told-2
-    enum-told-3
-    slice-write-register
-    same-length
-    returns-2
-    same-length-2
-    returns-3
-    same-length-3
-    returns-4)
+issue-spec = tie.close (tie.spec judge-issue-requires enum-told store-requires same-length returns same-length-2 returns-2)

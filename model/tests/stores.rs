@@ -1,0 +1,384 @@
+//! Holds the engine's source to what a contract cannot say of the register.
+//! A contract sees a register at entry and at exit; that a refused call stores
+//! nothing in between is seen in the code. One function stores, one byte, once;
+//! issue and withdraw call it only where they accept; every other function that
+//! may write a register hands it on.
+
+use std::collections::BTreeSet;
+use std::fs;
+use std::path::{Path, PathBuf};
+
+/// The one function that stores into a register.
+const STORE: &str = "register/src/lib.rt: store";
+
+/// The two that call it, and how: `store` stands in the arm of `Accepted`.
+const CALLS: [(&str, &str); 2] = [
+    (
+        "register/src/lib.rt: issue",
+        "let answer = judge_issue(register, number);
+         match answer {
+             Answer::Accepted => store(register, number, LIVE),
+             _ => {}
+         }
+         answer",
+    ),
+    (
+        "register/src/lib.rt: withdraw",
+        "let answer = judge_withdraw(register, number);
+         match answer {
+             Answer::Accepted => store(register, number, CLEARED),
+             _ => {}
+         }
+         answer",
+    ),
+];
+
+/// The two that judge. They may only read.
+const JUDGES: [&str; 2] = [
+    "register/src/lib.rt: judge_issue",
+    "register/src/lib.rt: judge_withdraw",
+];
+
+/// The others that may write a register, and the calls that they hand it to.
+const HANDS_ON: [(&str, &[&str]); 8] = [
+    (
+        "export/src/lib.rt: lavroudem_issue",
+        &["register::issue(register)"],
+    ),
+    (
+        "export/src/lib.rt: lavroudem_withdraw",
+        &["register::withdraw(register)"],
+    ),
+    ("orders/src/lib.rt: issue", &["register::issue(register)"]),
+    (
+        "orders/src/lib.rt: withdraw",
+        &["register::withdraw(register)"],
+    ),
+    (
+        "orders/src/lib.rt: act",
+        &[
+            "issue(register)",
+            "withdraw(register)",
+            "calls::forward(register)",
+            "call(register)",
+        ],
+    ),
+    ("turns/src/lib.rt: obey", &["orders::act(register)"]),
+    ("turns/src/lib.rt: turn", &["obey(register)"]),
+    ("runs/src/lib.rt: all", &["turns::turn(register)"]),
+];
+
+/// The one function of the engine with a register of its own.
+const OWNS: (&str, &str) = ("deck/src/lib.rt: run", "runs::all(&mut register)");
+
+/// The trials are a caller, and make up registers of their own.
+const TRIALS: &str = "trials/";
+
+// ---- the source, as words
+
+/// A function: its place and name, its parameters as name and type, its body.
+struct Function {
+    place: String,
+    parameters: Vec<(String, String)>,
+    body: Vec<String>,
+}
+
+fn crates() -> PathBuf {
+    Path::new(env!("CARGO_MANIFEST_DIR")).join("../crates")
+}
+
+fn sources_below(folder: &Path, found: &mut Vec<PathBuf>) {
+    for entry in fs::read_dir(folder).unwrap() {
+        let path = entry.unwrap().path();
+        if path.is_dir() {
+            sources_below(&path, found);
+        } else if path.extension().is_some_and(|ending| ending == "rt") {
+            found.push(path);
+        }
+    }
+}
+
+fn sources() -> Vec<PathBuf> {
+    let mut found = Vec::new();
+    for entry in fs::read_dir(crates()).unwrap() {
+        let folder = entry.unwrap().path().join("src");
+        if folder.is_dir() {
+            sources_below(&folder, &mut found);
+        }
+    }
+    found.sort();
+    found
+}
+
+/// Names and numbers whole, each other mark by itself. Comments and texts are left out.
+fn words(text: &str) -> Vec<String> {
+    let is_name = |c: char| c.is_alphanumeric() || c == '_';
+    let mut words: Vec<String> = Vec::new();
+    for line in text.lines() {
+        let line = line.split("//").next().unwrap();
+        let outside = line.split('"').step_by(2);
+        for part in outside {
+            let mut joins = false;
+            for c in part.chars() {
+                if is_name(c) && joins {
+                    words.last_mut().unwrap().push(c);
+                } else if !c.is_whitespace() {
+                    words.push(c.to_string());
+                }
+                joins = is_name(c);
+            }
+        }
+    }
+    words
+}
+
+/// The place behind the bracket that closes the one at `open`.
+fn behind(words: &[String], open: usize) -> usize {
+    let mut depth = 0;
+    for (at, word) in words.iter().enumerate().skip(open) {
+        match word.as_str() {
+            "(" | "[" | "{" => depth += 1,
+            ")" | "]" | "}" => depth -= 1,
+            _ => {}
+        }
+        if depth == 0 {
+            return at + 1;
+        }
+    }
+    panic!("a bracket is left open");
+}
+
+/// Splits at the commas that stand in no bracket.
+fn parameters(words: &[String]) -> Vec<(String, String)> {
+    let mut parts = vec![String::new()];
+    let mut depth = 0;
+    for word in words {
+        match word.as_str() {
+            "(" | "[" | "{" => depth += 1,
+            ")" | "]" | "}" => depth -= 1,
+            _ => {}
+        }
+        if word == "," && depth == 0 {
+            parts.push(String::new());
+        } else {
+            let part = parts.last_mut().unwrap();
+            *part = format!("{part} {word}").trim().to_string();
+        }
+    }
+    let pair = |part: &String| {
+        let (name, kind) = part.split_once(" : ").unwrap_or((part, ""));
+        (name.to_string(), kind.to_string())
+    };
+    parts
+        .iter()
+        .filter(|part| !part.is_empty())
+        .map(pair)
+        .collect()
+}
+
+fn functions_in(file: &str, words: &[String]) -> Vec<Function> {
+    let mut found = Vec::new();
+    for at in (0..words.len()).filter(|&at| words[at] == "fn") {
+        let open = at + words[at..].iter().position(|word| word == "(").unwrap();
+        let close = behind(words, open);
+        let mut start = close;
+        // a contract's clauses have braces too
+        loop {
+            let mut heads = words[start..].iter();
+            start += heads.position(|word| word == "{").unwrap();
+            let clause = |word: &String| word == "ensures" || word == "requires";
+            if !words[start - 2..start].iter().any(clause) {
+                break;
+            }
+            start = behind(words, start);
+        }
+        found.push(Function {
+            place: format!("{file}: {}", words[at + 1]),
+            parameters: parameters(&words[open + 1..close - 1]),
+            body: words[start + 1..behind(words, start) - 1].to_vec(),
+        });
+    }
+    found
+}
+
+fn functions() -> Vec<Function> {
+    let mut found = Vec::new();
+    for path in sources() {
+        let file = path.strip_prefix(crates()).unwrap().to_str().unwrap();
+        if file.starts_with(TRIALS) {
+            continue;
+        }
+        let text = fs::read_to_string(&path).unwrap();
+        found.extend(functions_in(file, &words(&text)));
+    }
+    assert!(found.len() > 100, "the engine's functions are not found");
+    found
+}
+
+fn function<'a>(functions: &'a [Function], place: &str) -> &'a Function {
+    let found = functions.iter().find(|function| function.place == place);
+    found.unwrap_or_else(|| panic!("no function {place}"))
+}
+
+impl Function {
+    fn kind_of(&self, name: &str) -> Option<&str> {
+        let found = self.parameters.iter().find(|(it, _)| it == name);
+        found.map(|(_, kind)| kind.as_str())
+    }
+
+    fn may_write_register(&self) -> bool {
+        self.kind_of("register") == Some("& mut [ u8 ]")
+    }
+
+    fn owns_register(&self) -> bool {
+        let own = ["let", "mut", "register"];
+        self.body.windows(3).any(|words| words == own)
+    }
+
+    /// Where the body names the register, and not the crate of that name.
+    fn uses(&self) -> Vec<usize> {
+        let named = |&at: &usize| {
+            let path = self.body[at + 1..].starts_with(&two(":", ":"));
+            let made = self.body[..at].ends_with(&two("let", "mut"));
+            self.body[at] == "register" && !path && !made
+        };
+        (0..self.body.len()).filter(named).collect()
+    }
+
+    /// Whether a use is `register[..] = ..`.
+    fn stores_at(&self, at: usize) -> bool {
+        if self.body.get(at + 1).is_none_or(|word| word != "[") {
+            return false;
+        }
+        let next = &self.body[behind(&self.body, at + 1)..];
+        next.first().is_some_and(|word| word == "=") && !next.starts_with(&two("=", "="))
+    }
+
+    /// Each use as the call whose whole argument it is.
+    fn handed(&self) -> Vec<String> {
+        let uses = self.uses();
+        uses.into_iter().map(|at| self.handed_at(at)).collect()
+    }
+
+    fn handed_at(&self, at: usize) -> String {
+        let whole = "the register is used otherwise than as an argument";
+        let lent = self.body[..at].ends_with(&two("&", "mut"));
+        let start = if lent { at - 2 } else { at };
+        let before = self.body[..start].last().map_or("", String::as_str);
+        let after = self.body.get(at + 1).map_or("", String::as_str);
+        let argument = ["(", ","].contains(&before) && [")", ","].contains(&after);
+        assert!(argument, "{}: {whole}", self.place);
+        let open = opened(&self.body, start - 1);
+        assert_eq!(self.body[open], "(", "{}: {whole}", self.place);
+        let lent = if lent { "&mut " } else { "" };
+        format!("{}({lent}register)", path_before(&self.body, open))
+    }
+}
+
+fn two(first: &str, second: &str) -> [String; 2] {
+    [first.to_string(), second.to_string()]
+}
+
+/// The path of the function that is called at a bracket.
+fn path_before(words: &[String], open: usize) -> String {
+    let mut start = open - 1;
+    while start >= 3 && [":", "."].contains(&words[start - 1].as_str()) {
+        start -= if words[start - 1] == ":" { 3 } else { 2 };
+    }
+    words[start..open].concat()
+}
+
+/// The bracket that is open at a place.
+fn opened(words: &[String], place: usize) -> usize {
+    let mut depth = 0;
+    for at in (0..=place).rev() {
+        match words[at].as_str() {
+            ")" | "]" | "}" => depth += 1,
+            "(" | "[" | "{" if depth == 0 => return at,
+            "(" | "[" | "{" => depth -= 1,
+            _ => {}
+        }
+    }
+    panic!("no bracket is open");
+}
+
+// ---- what is held
+
+/// A writable slice of bytes is a register or the listing's room, and called so.
+#[test]
+fn writable_bytes_are_called_register_or_out() {
+    for function in functions() {
+        for (name, kind) in &function.parameters {
+            let bytes = kind.contains("mut") && kind.contains("u8");
+            let called = ["register", "out"].contains(&name.as_str());
+            let plain = called && kind == "& mut [ u8 ]";
+            assert!(!bytes || plain, "{}: {name}: {kind}", function.place);
+            let known = ["& mut [ u8 ]", "& [ u8 ]"].contains(&kind.as_str());
+            assert!(name != "register" || known, "{}: {kind}", function.place);
+        }
+    }
+}
+
+#[test]
+fn functions_that_may_write_a_register_are_these() {
+    let mut expected = BTreeSet::from([STORE]);
+    expected.extend(CALLS.map(|(place, _)| place));
+    expected.extend(HANDS_ON.map(|(place, _)| place));
+    let functions = functions();
+    let writing = functions
+        .iter()
+        .filter(|function| function.may_write_register());
+    let found: Vec<&str> = writing.map(|function| function.place.as_str()).collect();
+    assert_eq!(found.len(), expected.len(), "{found:?}");
+    assert_eq!(BTreeSet::from_iter(found), expected);
+}
+
+#[test]
+fn one_function_stores_one_byte_once() {
+    let functions = functions();
+    let store = function(&functions, STORE);
+    assert_eq!(store.body, words("register[number as usize] = byte;"));
+    let mut stores = Vec::new();
+    for function in &functions {
+        for at in function.uses() {
+            if function.stores_at(at) {
+                stores.push(function.place.as_str());
+            }
+        }
+    }
+    assert_eq!(stores, [STORE]);
+}
+
+#[test]
+fn only_an_accepted_call_stores() {
+    let functions = functions();
+    for (place, body) in CALLS {
+        assert_eq!(function(&functions, place).body, words(body), "{place}");
+    }
+    let calls = two("store", "(");
+    let stores = |function: &&Function| function.body.windows(2).any(|words| words == calls);
+    let callers: Vec<&str> = functions
+        .iter()
+        .filter(stores)
+        .map(|function| function.place.as_str())
+        .collect();
+    assert_eq!(callers, CALLS.map(|(place, _)| place));
+    for place in JUDGES {
+        let kind = function(&functions, place).kind_of("register");
+        assert_eq!(kind, Some("& [ u8 ]"), "{place}");
+    }
+}
+
+#[test]
+fn other_functions_hand_the_register_on() {
+    let functions = functions();
+    for (place, calls) in HANDS_ON {
+        assert_eq!(function(&functions, place).handed(), calls, "{place}");
+    }
+    let owners: Vec<&Function> = functions.iter().filter(|it| it.owns_register()).collect();
+    for owner in &owners {
+        assert_eq!(owner.place, OWNS.0);
+        assert_eq!(owner.handed(), [OWNS.1], "{}", owner.place);
+    }
+    assert_eq!(owners.len(), 1);
+}
