@@ -17,7 +17,7 @@ use Rattle.sheet.proofs.Limits.{within, all-most}
 use Rattle.cash.specs.declared.Node.{Node}
 use Rattle.cash.specs.Hedges.{Figures}
 use Rattle.tree.proofs.Sheets.{loss-most}
-use Rattle.rows.proofs.Losses.{width-most}
+use Rattle.tranches.proofs.Losses.{width-most}
 use Rattle.walk.specs.Answers as Lent
 use Rattle.walk.specs.Table.{nodeOf}
 use Rattle.walk.specs.Reads.{Readable}

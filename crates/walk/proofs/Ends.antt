@@ -16,7 +16,7 @@ use Rattle.rows.specs.Tables.{tab, grid}
 use Rattle.rows.specs.Rows.{nodeIn, rowOf, rolledBack, spreadRow}
 use Rattle.rows.specs.Limits as Rows
 use Rattle.rows.proofs.Sums.{sum-drop-most}
-use Rattle.rows.proofs.Losses.{width-most, loss-bare}
+use Rattle.tranches.proofs.Losses.{width-most, loss-bare}
 use Rattle.ceilings.proofs.Found.{unsoiled-rollable}
 use Rattle.sheet.specs.Brought.{Brought, brought}
 use Rattle.sheet.specs.declared.Refusal.{Refusal}

@@ -84,19 +84,24 @@ accepted-holds (t ∷ l) a s (inr p) e = (p .0, accepted-holds l a (tail-some t 
 pub judged-accepted : (m : Order) (a : Said) → numbered m ≡ true → Judges m a → (accepted a ≡ true) ↔ Holds m
 judged-accepted m a s j = (accepted-holds m a s j, holds-accepted m a j)
 
--- The numbers of the rules before a broken one are at most its own: the call is refused, by a number that is no greater.
+-- The numbers of the rules before a broken one are at most its own: the call is refused, by a number that is no greater and no value beside it.
 abbrev pub upTo : ℕ → Order → Bool
 upTo n [] = true
 upTo n (t ∷ l) = leb (t .1) n && upTo n l
 
 pub broken-refused : (m : Order) (K : Type 0) (n : ℕ) (rest : Order) (a : Said) → numbered (m ++ ((K, n) ∷ rest)) ≡ true → upTo n m ≡ true → ¬ K
-    → Judges (m ++ ((K, n) ∷ rest)) a → (accepted a ≡ false) × (a .number ≤ n)
+    → Judges (m ++ ((K, n) ∷ rest)) a → (accepted a ≡ false) × (a .number ≤ n) × (a .values ≡ [])
 unfolding Judges
-broken-refused [] K n rest a s u h (inl p) = (ap accepted (p .1) ∙ head-some (K, n) rest s, le-of-eq (ap (λ (b : Said). b .number) (p .1)))
+broken-refused [] K n rest a s u h (inl p) = (
+  ap accepted (p .1) ∙ head-some (K, n) rest s,
+  le-of-eq (ap (λ (b : Said). b .number) (p .1)),
+  ap (λ (b : Said). b .values) (p .1),
+)
 broken-refused [] K n rest a s u h (inr p) = absurd (h (p .0))
 broken-refused (t ∷ m) K n rest a s u h (inl p) = (
   ap accepted (p .1) ∙ head-some t (m ++ ((K, n) ∷ rest)) s,
   le-trans (le-of-eq (ap (λ (b : Said). b .number) (p .1))) (leb-true (t .1) n (both (leb (t .1) n) (upTo n m) u .0)),
+  ap (λ (b : Said). b .values) (p .1),
 )
 broken-refused (t ∷ m) K n rest a s u h (inr p) =
     broken-refused m K n rest a (tail-some t (m ++ ((K, n) ∷ rest)) s) (both (leb (t .1) n) (upTo n m) u .1) h (p .1)

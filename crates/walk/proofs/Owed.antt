@@ -120,5 +120,5 @@ owed e rules u =
           let x = u .book .sheet y in
           let r = rules .value x (end e u .register) (end e u .walk) (lent t (end e u .rows)) j k in
           let zero : getD (end e u .register) (x .number) 0 ≡ 0 = rw (u .book .bears y) (known e rules u .out y g) in
-          ten-early x (end e u .register) (zero-gone _ _ zero) _ _ _ refl (r .judged) .refused;
+          ten-early x (end e u .register) (zero-gone _ _ zero) _ _ _ refl (r .judged);
     }

@@ -1,4 +1,5 @@
--- A withdrawal that returned holds for ever, wherever the power fails, and a write only clears bits. Assumes nothing.
+-- A withdrawal that returned holds for ever, as does a byte that says withdrawn, wherever the power fails.
+-- A write only clears bits, of its own byte. Assumes nothing.
 use Prim.Native.Nat.{ℕ, suc, _≤_, _<_}
 use mathlib.Core.Path.{_≡_, refl, sym, _∙_, ap, subst}
 use mathlib.Core.Bool.{Bool, true, false, cond, _&&_, _||_, false≢true}
@@ -7,7 +8,7 @@ use mathlib.Core.Logic.{_≢_, _⊎_, inl, inr}
 use native.Mathlib.Omega.{arith}
 use native.Mathlib.Decide.{decLt}
 use lib.ListN.{length, getD, set, length-set, List·getD-eq-default}
-use lib.Seq.{getD-set-same}
+use lib.Seq.{getD-set-same, getD-set-other}
 use lib.Dec.{eqb}
 use borrow.Author.Tests.{eqb-true}
 use Rattle.register.specs.Rules.{Unissued, Live}
@@ -18,8 +19,8 @@ use Rattle.walk.specs.declared.Walk.{Walk}
 use Rattle.walk.specs.Answers.{Rows, accepted}
 use Rattle.walk.specs.Does.{Entered, Moved, Kept, Writes}
 use Rattle.walk.specs.Engine.{Engine}
-use Rattle.walk.specs.Lists.{lent, Call, issue, withdraw, opening, back, value, State, entered, begun, went, turn, History, noted, nothing}
-use Rattle.walk.specs.Promises.{Event, returned, cutIn, found, leaves, withdrew, afterAll, everWithdrew, Early, Shut, Forever, Clears}
+use Rattle.walk.specs.Lists.{lent, issue, withdraw, opening, back, value, State, entered, begun, went, turn, History, noted, nothing}
+use Rattle.walk.specs.Promises.{Operation, call, ratio, forward, operate, Event, returned, cutIn, found, leaves, withdrew, afterAll, everWithdrew, Early, Shut, Forever, Clears}
 use Rattle.walk.specs.Promise.{Rules}
 use Rattle.walk.proofs.Taken.{issue-taken, withdraw-taken, issue-early, withdraw-early, ten-early}
 use Rattle.walk.proofs.Invariant.{writes-zero, zero-stays, unissued-some, live-some, zero-gone, or-cases}
@@ -33,6 +34,23 @@ cut-size false g y v = refl
 cut-zero : (b : Bool) (g : List ℕ) (y v : ℕ) → (b ≡ true → getD g y 0 ≢ 0) → (z : ℕ) → getD g z 0 ≡ 0 → getD (cond b (set g y v) g) z 0 ≡ 0
 cut-zero true g y v h z e = zero-stays g y z v (h refl) e
 cut-zero false g y v h z e = e
+
+-- A byte that is neither FF nor A5 is not the one written.
+cut-withdrawn : (c : Bool) (g : List ℕ) (y v : ℕ) → (c ≡ true → Unissued g y ⊎ Live g y) → (z : ℕ) → ¬ (Unissued g z ⊎ Live g z)
+    → ¬ (Unissued (cond c (set g y v) g) z ⊎ Live (cond c (set g y v) g) z)
+cut-withdrawn false g y v h z n k = n k
+cut-withdrawn true g y v h z n k = go k
+  where
+    apart : z ≢ y
+    apart e = n (subst (λ i. Unissued g i ⊎ Live g i) (sym e) (h refl))
+
+    go : Unissued (set g y v) z ⊎ Live (set g y v) z → ⊥
+    go (inl u) = n (inl (record { size = sym (length-set g y v) ∙ u .size; byte = sym (getD-set-other g y z v 0 apart) ∙ u .byte }))
+    go (inr u) = n (inr (record { size = sym (length-set g y v) ∙ u .size; byte = sym (getD-set-other g y z v 0 apart) ∙ u .byte }))
+
+cut-others : (c : Bool) (g : List ℕ) (y v z : ℕ) → z ≢ y → getD (cond c (set g y v) g) z 0 ≡ getD g z 0
+cut-others true g y v z n = getD-set-other g y z v 0 n
+cut-others false g y v z n = refl
 
 -- A call that returned writes as a cut that finds the byte written.
 written : (g : List ℕ) (y v : ℕ) (o : Entered) → Writes g y v o → o .register ≡ cond (accepted (o .said)) (set g y v) g
@@ -49,47 +67,55 @@ module _ (e : Engine) (rules : Rules e) where
   withdraw-over : (g : List ℕ) (y : ℕ) → accepted (e .withdraw g y .said) ≡ true → getD g y 0 ≢ 0
   withdraw-over g y a = live-some g y (withdraw-taken g y _ (rules .withdraw g y) .0 a)
 
-  found-size : (g : List ℕ) (c : Call) (b : ℕ) → length (found e g c b) ≡ length g
+  found-size : (g : List ℕ) (o : Operation) (b : ℕ) → length (found e g o b) ≡ length g
   unfolding found
-  found-size g (issue y) b = cut-size (accepted (e .issue g y .said)) g y b
-  found-size g (withdraw y) b = cut-size (accepted (e .withdraw g y .said)) g y b
-  found-size g (opening y l) b = refl
-  found-size g (back y t c) b = refl
-  found-size g (value y t j k) b = refl
+  found-size g (call (issue y)) b = cut-size (accepted (e .issue g y .said)) g y b
+  found-size g (call (withdraw y)) b = cut-size (accepted (e .withdraw g y .said)) g y b
+  found-size g (call (opening y l)) b = refl
+  found-size g (call (back y t c)) b = refl
+  found-size g (call (value y t j k)) b = refl
+  found-size g (ratio y t j k) b = refl
+  found-size g (forward y q i) b = refl
 
-  found-zero : (g : List ℕ) (c : Call) (b z : ℕ) → getD g z 0 ≡ 0 → getD (found e g c b) z 0 ≡ 0
+  found-zero : (g : List ℕ) (o : Operation) (b z : ℕ) → getD g z 0 ≡ 0 → getD (found e g o b) z 0 ≡ 0
   unfolding found
-  found-zero g (issue y) b z p = cut-zero (accepted (e .issue g y .said)) g y b (issue-over g y) z p
-  found-zero g (withdraw y) b z p = cut-zero (accepted (e .withdraw g y .said)) g y b (withdraw-over g y) z p
-  found-zero g (opening y l) b z p = p
-  found-zero g (back y t c) b z p = p
-  found-zero g (value y t j k) b z p = p
+  found-zero g (call (issue y)) b z p = cut-zero (accepted (e .issue g y .said)) g y b (issue-over g y) z p
+  found-zero g (call (withdraw y)) b z p = cut-zero (accepted (e .withdraw g y .said)) g y b (withdraw-over g y) z p
+  found-zero g (call (opening y l)) b z p = p
+  found-zero g (call (back y t c)) b z p = p
+  found-zero g (call (value y t j k)) b z p = p
+  found-zero g (ratio y t j k) b z p = p
+  found-zero g (forward y q i) b z p = p
 
   -- The byte that a call writes where it returns.
-  abbrev byteOf : Call → ℕ
-  byteOf (issue y) = 0xA5
-  byteOf (withdraw y) = 0x00
-  byteOf (opening y l) = 0
-  byteOf (back y t c) = 0
-  byteOf (value y t j k) = 0
+  abbrev byteOf : Operation → ℕ
+  byteOf (call (issue y)) = 0xA5
+  byteOf (call (withdraw y)) = 0x00
+  byteOf (call (opening y l)) = 0
+  byteOf (call (back y t c)) = 0
+  byteOf (call (value y t j k)) = 0
+  byteOf (ratio y t j k) = 0
+  byteOf (forward y q i) = 0
 
-  turn-writes : (book : ℕ → Brought) (s : State) (c : Call) → turn e book s c .state .register ≡ found e (s .register) c (byteOf c)
-  unfolding turn entered begun went found
-  turn-writes book s (issue y) = written (s .register) y 0xA5 (e .issue (s .register) y) (rules .issue (s .register) y .writes)
-  turn-writes book s (withdraw y) = written (s .register) y 0x00 (e .withdraw (s .register) y) (rules .withdraw (s .register) y .writes)
-  turn-writes book s (opening y l) = refl
-  turn-writes book s (back y t c) = refl
-  turn-writes book s (value y t j k) = refl
+  operate-writes : (book : ℕ → Brought) (s : State) (o : Operation) → operate e book s o .state .register ≡ found e (s .register) o (byteOf o)
+  unfolding operate turn entered begun went found
+  operate-writes book s (call (issue y)) = written (s .register) y 0xA5 (e .issue (s .register) y) (rules .issue (s .register) y .writes)
+  operate-writes book s (call (withdraw y)) = written (s .register) y 0x00 (e .withdraw (s .register) y) (rules .withdraw (s .register) y .writes)
+  operate-writes book s (call (opening y l)) = refl
+  operate-writes book s (call (back y t c)) = refl
+  operate-writes book s (call (value y t j k)) = refl
+  operate-writes book s (ratio y t j k) = refl
+  operate-writes book s (forward y q i) = refl
 
   leaves-size : (s : State) (v : Event) → length (leaves e s v .register) ≡ length (s .register)
   unfolding leaves
-  leaves-size s (returned k c) = ap length (turn-writes (k .sheet) s c) ∙ found-size (s .register) c (byteOf c)
-  leaves-size s (cutIn c b w m) = found-size (s .register) c b
+  leaves-size s (returned k o) = ap length (operate-writes (k .sheet) s o) ∙ found-size (s .register) o (byteOf o)
+  leaves-size s (cutIn o b w m) = found-size (s .register) o b
 
   leaves-zero : (s : State) (v : Event) (z : ℕ) → getD (s .register) z 0 ≡ 0 → getD (leaves e s v .register) z 0 ≡ 0
   unfolding leaves
-  leaves-zero s (returned k c) z p = ap (λ g. getD g z 0) (turn-writes (k .sheet) s c) ∙ found-zero (s .register) c (byteOf c) z p
-  leaves-zero s (cutIn c b w m) z p = found-zero (s .register) c b z p
+  leaves-zero s (returned k o) z p = ap (λ g. getD g z 0) (operate-writes (k .sheet) s o) ∙ found-zero (s .register) o (byteOf o) z p
+  leaves-zero s (cutIn o b w m) z p = found-zero (s .register) o b z p
 
   -- ---- the withdrawal itself
 
@@ -107,13 +133,15 @@ module _ (e : Engine) (rules : Rules e) where
   open-none false k z p q = false≢true q
 
   withdrew-zero : (s : State) (v : Event) (z : ℕ) → withdrew e s v z ≡ true → getD (leaves e s v .register) z 0 ≡ 0
-  unfolding withdrew leaves turn entered begun went noted
-  withdrew-zero s (returned k (issue y)) z p = absurd (false≢true p)
-  withdrew-zero s (returned k (withdraw y)) z p = gone-zero (s .register) y z p
-  withdrew-zero s (returned k (opening y t)) z p = absurd (open-none (accepted (e .opening (k .sheet y) (s .register) (s .walk) (lent t (s .rows)) .said)) _ z refl p)
-  withdrew-zero s (returned k (back y t c)) z p = absurd (false≢true p)
-  withdrew-zero s (returned k (value y t i j)) z p = absurd (false≢true p)
-  withdrew-zero s (cutIn c b w m) z p = absurd (false≢true p)
+  unfolding withdrew leaves operate turn entered begun went noted
+  withdrew-zero s (returned k (call (issue y))) z p = absurd (false≢true p)
+  withdrew-zero s (returned k (call (withdraw y))) z p = gone-zero (s .register) y z p
+  withdrew-zero s (returned k (call (opening y t))) z p = absurd (open-none (accepted (e .opening (k .sheet y) (s .register) (s .walk) (lent t (s .rows)) .said)) _ z refl p)
+  withdrew-zero s (returned k (call (back y t c))) z p = absurd (false≢true p)
+  withdrew-zero s (returned k (call (value y t i j))) z p = absurd (false≢true p)
+  withdrew-zero s (returned k (ratio y t i j)) z p = absurd (false≢true p)
+  withdrew-zero s (returned k (forward y q i)) z p = absurd (false≢true p)
+  withdrew-zero s (cutIn o b w m) z p = absurd (false≢true p)
 
   -- ---- every list of events
 
@@ -137,6 +165,34 @@ module _ (e : Engine) (rules : Rules e) where
       go later (inl q) = all-zero l (leaves e s v) z (withdrew-zero s v z q)
       go later (inr q) = later q
 
+  -- ---- a number that a register says withdrawn, by whatever byte
+
+  found-withdrawn : (g : List ℕ) (o : Operation) (b z : ℕ) → ¬ (Unissued g z ⊎ Live g z)
+      → ¬ (Unissued (found e g o b) z ⊎ Live (found e g o b) z)
+  unfolding found
+  found-withdrawn g (call (issue y)) b z n =
+      cut-withdrawn (accepted (e .issue g y .said)) g y b (λ a. inl (issue-taken g y _ (rules .issue g y) .0 a)) z n
+  found-withdrawn g (call (withdraw y)) b z n =
+      cut-withdrawn (accepted (e .withdraw g y .said)) g y b (λ a. inr (withdraw-taken g y _ (rules .withdraw g y) .0 a)) z n
+  found-withdrawn g (call (opening y t)) b z n = n
+  found-withdrawn g (call (back y t c)) b z n = n
+  found-withdrawn g (call (value y t i j)) b z n = n
+  found-withdrawn g (ratio y t i j) b z n = n
+  found-withdrawn g (forward y q i) b z n = n
+
+  leaves-withdrawn : (s : State) (v : Event) (z : ℕ) → ¬ (Unissued (s .register) z ⊎ Live (s .register) z)
+      → ¬ (Unissued (leaves e s v .register) z ⊎ Live (leaves e s v .register) z)
+  unfolding leaves
+  leaves-withdrawn s (returned k o) z n =
+      subst (λ g. ¬ (Unissued g z ⊎ Live g z)) (sym (operate-writes (k .sheet) s o)) (found-withdrawn (s .register) o (byteOf o) z n)
+  leaves-withdrawn s (cutIn o b w m) z n = found-withdrawn (s .register) o b z n
+
+  all-withdrawn : (l : List Event) (s : State) (z : ℕ) → ¬ (Unissued (s .register) z ⊎ Live (s .register) z)
+      → ¬ (Unissued (afterAll e s l .register) z ⊎ Live (afterAll e s l .register) z)
+  unfolding afterAll
+  all-withdrawn [] s z n = n
+  all-withdrawn (v ∷ l) s z n = all-withdrawn l (leaves e s v) z (leaves-withdrawn s v z n)
+
   -- ---- refused for ever
 
   shut-write : (g : List ℕ) (y v : ℕ) (o : Entered) → Early (o .said) → Writes g y v o → Early (o .said) × (o .register ≡ g)
@@ -145,11 +201,11 @@ module _ (e : Engine) (rules : Rules e) where
   shut-move : (w : Walk) (m : Rows) (o : Moved) → Early (o .said) → Kept w m o → Early (o .said) × (o .walk ≡ w) × (o .rows ≡ m)
   shut-move w m o a k = let r = k (a .refused) in (a, r .0, r .1)
 
-  shut : (g : List ℕ) (y : ℕ) → getD g y 0 ≡ 0 → Shut e g y
-  shut g y z =
+  shut : (g : List ℕ) (y : ℕ) → ¬ (Unissued g y ⊎ Live g y) → Shut e g y
+  shut g y n =
       record {
-        issue = let r = rules .issue g y in shut-write g y 0xA5 (e .issue g y) (issue-early g y (zero-gone g y z) _ (r .judged)) (r .writes);
-        withdraw = let r = rules .withdraw g y in shut-write g y 0x00 (e .withdraw g y) (withdraw-early g y (zero-gone g y z) _ (r .judged)) (r .writes);
+        issue = let r = rules .issue g y in shut-write g y 0xA5 (e .issue g y) (issue-early g y n _ (r .judged)) (r .writes);
+        withdraw = let r = rules .withdraw g y in shut-write g y 0x00 (e .withdraw g y) (withdraw-early g y n _ (r .judged)) (r .writes);
         opening = λ x w l b. let r = rules .opening x g w l in shut-move w l (e .opening x g w l) (ten-early x g (gone x b) _ _ _ refl (r .judged)) (r .leaves);
         back = λ x w l c b. let r = rules .back x g w l c in shut-move w l (e .back x g w l c) (ten-early x g (gone x b) _ _ _ refl (r .judged)) (r .leaves);
         value = λ x w l j k b. let r = rules .value x g w l j k in shut-move w l (e .value x g w l j k) (ten-early x g (gone x b) _ _ _ refl (r .judged)) (r .leaves);
@@ -158,10 +214,15 @@ module _ (e : Engine) (rules : Rules e) where
       }
     where
       gone : (x : Brought) → x .number ≡ y → ¬ (Unissued g (x .number) ⊎ Live g (x .number))
-      gone x b = zero-gone g (x .number) (rw b z)
+      gone x b = subst (λ i. ¬ (Unissued g i ⊎ Live g i)) (sym b) n
 
   pub power : (start : State) (l : List Event) → Forever e start l
-  power start l = record { shut = λ y p. shut (afterAll e start l .register) y (all-gone l start y p); whole = all-size l start }
+  power start l =
+      record {
+        shut = λ y p. shut (afterAll e start l .register) y (zero-gone _ y (all-gone l start y p));
+        stays = λ y n. shut (afterAll e start l .register) y (all-withdrawn l start y n);
+        whole = all-size l start;
+      }
 
 -- ---- a write only clears bits
 
@@ -196,4 +257,12 @@ clears e rules g y =
           let o : getD g y 0 ≡ 0xA5 = withdraw-taken g y _ (rules .withdraw g y) .0 a .byte in
           let n : getD (e .withdraw g y .register) y 0 ≡ 0x00 = new-byte _ g y 0x00 0xA4 (rules .withdraw g y .writes .does a .1) o in
           never-all _ _ b o n m;
+      issue-others = λ z n.
+          ap (λ r. getD r z 0) (written g y 0xA5 (e .issue g y) (rules .issue g y .writes))
+          ∙ cut-others (accepted (e .issue g y .said)) g y 0xA5 z n;
+      withdraw-others = λ z n.
+          ap (λ r. getD r z 0) (written g y 0x00 (e .withdraw g y) (rules .withdraw g y .writes))
+          ∙ cut-others (accepted (e .withdraw g y .said)) g y 0x00 z n;
+      issue-refused = rules .issue g y .writes .leaves;
+      withdraw-refused = rules .withdraw g y .writes .leaves;
     }

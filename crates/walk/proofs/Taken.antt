@@ -60,10 +60,14 @@ forward-taken x g q i o r = Iff·trans (judged-accepted (forwardOrder x g q i) (
 
 module _ (g : List ℕ) (y : ℕ) (gone : ¬ (Unissued g y ⊎ Live g y)) (a : Said) where
   pub issue-early : Judges (issueOrder g y) a → Early a
-  issue-early j = let p = broken-refused ((length g ≡ 256, 2) ∷ []) _ 9 ((¬ (Live g y), 17) ∷ []) a refl refl gone j in record { refused = p .0; early = p .1 }
+  issue-early j =
+      let p = broken-refused ((length g ≡ 256, 2) ∷ []) _ 9 ((¬ (Live g y), 17) ∷ []) a refl refl gone j in
+      record { refused = p .0; early = p .1; silent = p .2 }
 
   pub withdraw-early : Judges (withdrawOrder g y) a → Early a
-  withdraw-early j = let p = broken-refused ((length g ≡ 256, 2) ∷ []) _ 9 ((¬ (Unissued g y), 10) ∷ []) a refl refl gone j in record { refused = p .0; early = p .1 }
+  withdraw-early j =
+      let p = broken-refused ((length g ≡ 256, 2) ∷ []) _ 9 ((¬ (Unissued g y), 10) ∷ []) a refl refl gone j in
+      record { refused = p .0; early = p .1; silent = p .2 }
 
 -- The five calls that bring a sheet.
 pub ten-early : (x : Brought) (g : List ℕ) → ¬ (Unissued g (x .number) ⊎ Live g (x .number)) → (K : Type 0) (m : Order) (a : Said)
@@ -73,4 +77,4 @@ ten-early x g gone K m a n j =
     ((PoolInside (x .sheet), 1) ∷ (K, 2) ∷ (RecoveryInside (x .sheet), 3) ∷ (AttachmentsRise (x .sheet), 4) ∷ (HazardsInside (x .sheet), 5)
     ∷ (DiscountsInside (x .sheet), 6) ∷ (AccrualsInside (x .sheet), 7) ∷ (CouponsInside x, 8) ∷ [])
     _ 9 ((¬ (Unissued g (x .number)), 10) ∷ m) a n refl gone j in
-    record { refused = p .0; early = p .1 }
+    record { refused = p .0; early = p .1; silent = p .2 }

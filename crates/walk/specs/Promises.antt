@@ -4,14 +4,14 @@ use mathlib.Core.Path.{_≡_}
 use mathlib.Core.Bool.{Bool, true, false, cond, _&&_, _||_}
 use mathlib.Core.List.{List, [], _∷_, _++_}
 use mathlib.Core.Option.{some}
-use mathlib.Core.Logic.{_≢_}
+use mathlib.Core.Logic.{_≢_, _⊎_}
 use lib.ListN.{length, getD, set}
 use lib.IntN.{ℤ, pos}
 use Rattle.cash.specs.Units.{B}
 use Rattle.cash.specs.Near.{Near}
 use Rattle.cash.specs.Sums.{sumTo}
 use Rattle.cash.specs.Hedges.{netValue}
-use Rattle.register.specs.Rules.{Live}
+use Rattle.register.specs.Rules.{Unissued, Live}
 use Rattle.register.specs.Cut.{mayBeLeft}
 use Rattle.tree.specs.Sheet.{Sheet, D, A, exactD, exactA, dates, spanning}
 use Rattle.rows.specs.Rows.{nodeIn}
@@ -21,7 +21,7 @@ use Rattle.walk.specs.declared.Walk.{Walk}
 use Rattle.walk.specs.Answers.{Rows, Said, accepted}
 use Rattle.walk.specs.Does.{Entered, Moved, Spread, says, size, Issues, Withdraws, Opens, Backs, Values}
 use Rattle.walk.specs.Engine.{Engine}
-use Rattle.walk.specs.Lists.{Lent, same, other, lent, Call, issue, withdraw, opening, back, value, State, turn, History, noted, nothing, Book, Run, end, history, answers}
+use Rattle.walk.specs.Lists.{Lent, same, other, lent, Call, issue, withdraw, opening, back, value, State, Turn, went, turn, History, noted, nothing, Book, Run, end, history, answers}
 
 -- ---- demand 3
 
@@ -71,10 +71,16 @@ pub record Found (e : Engine) (u : Run) (x : Brought) (h : ℕ) : Type 0 where
       Near ((x .sheet .tranches + 1) * (2 * h + dates (x .sheet) h (x .sheet .steps - h)))
       (2 * sumTo (x .sheet .tranches) (λ j. heldA e u (x .sheet) j k)) (2 * heldA e v (spanning (x .sheet)) 0 k)
 
--- Demand 3, of every list: what is found of the last walk, and that a number withdrawn in the list shows no value.
+-- A refusal by 9, or by what the call gets before it: the number, and no value beside it.
+pub record Early (s : Said) : Type 0 where
+  pub refused : accepted s ≡ false
+  pub early : s .number ≤ 9
+  pub silent : s .values ≡ []
+
+-- Demand 3, of every list: what is found of the last walk, and that a number withdrawn in the list shows no value, not even beside a refusal.
 pub record Owed (e : Engine) (u : Run) : Type 0 where
   pub found : (y h : ℕ) → Walked e u y h → Found e u (u .book .sheet y) h
-  pub hidden : (y : ℕ) → history e u .gone y ≡ true → (t : Lent) (j k : ℕ) → accepted (answers e u (value y t j k)) ≡ false
+  pub hidden : (y : ℕ) → history e u .gone y ≡ true → (t : Lent) (j k : ℕ) → Early (answers e u (value y t j k))
 
 -- ---- demand 1
 
@@ -122,27 +128,43 @@ pub record Serves (e : Engine) (u : Run) : Type 0 where
 
 -- ---- power cuts
 
+-- Any of the seven calls: one of demand 3's, a hedge ratio, which is lent rows as value is, or forward, which is lent a row of its own.
+pub data Operation : Type 0 where
+  call : Call → Operation
+  ratio : ℕ → Lent → ℕ → ℕ → Operation
+  forward : ℕ → List ℕ → ℕ → Operation
+
+-- What it answers and leaves: a hedge ratio gives walk and rows back as value does, and forward is given neither.
+unfoldable pub operate : Engine → (ℕ → Brought) → State → Operation → Turn
+operate e book s (call c) = turn e book s c
+operate e book s (ratio y t j k) = went s t (e .ratio (book y) (s .register) (s .walk) (lent t (s .rows)) j k)
+operate e book s (forward y q i) = record { said = e .forward (book y) (s .register) q i .said; state = s }
+
 -- A call that returned, with the sheets of that moment; or a call in which the power failed, with the byte then found where it was to write, and the walk and the rows after it.
 pub data Event : Type 0 where
-  returned : Book → Call → Event
-  cutIn : Call → ℕ → Walk → Rows → Event
+  returned : Book → Operation → Event
+  cutIn : Operation → ℕ → Walk → Rows → Event
 
 -- The register found after a cut: only an accepted issue or withdraw writes, and only its own byte.
-unfoldable pub found : Engine → List ℕ → Call → ℕ → List ℕ
-found e g (issue y) b = cond (accepted (e .issue g y .said)) (set g y b) g
-found e g (withdraw y) b = cond (accepted (e .withdraw g y .said)) (set g y b) g
-found e g (opening y l) b = g
-found e g (back y t c) b = g
-found e g (value y t j k) b = g
+unfoldable pub found : Engine → List ℕ → Operation → ℕ → List ℕ
+found e g (call (issue y)) b = cond (accepted (e .issue g y .said)) (set g y b) g
+found e g (call (withdraw y)) b = cond (accepted (e .withdraw g y .said)) (set g y b) g
+found e g (call (opening y l)) b = g
+found e g (call (back y t c)) b = g
+found e g (call (value y t j k)) b = g
+found e g (ratio y t j k) b = g
+found e g (forward y q i) b = g
 
 unfoldable pub leaves : Engine → State → Event → State
-leaves e s (returned k c) = turn e (k .sheet) s c .state
-leaves e s (cutIn c b w m) = record { register = found e (s .register) c b; walk = w; rows = m }
+leaves e s (returned k o) = operate e (k .sheet) s o .state
+leaves e s (cutIn o b w m) = record { register = found e (s .register) o b; walk = w; rows = m }
 
 -- Whether a withdraw of y was accepted and returned.
 unfoldable pub withdrew : Engine → State → Event → ℕ → Bool
-withdrew e s (returned k c) y = noted nothing c (turn e (k .sheet) s c .said) .gone y
-withdrew e s (cutIn c b w m) y = false
+withdrew e s (returned k (call c)) y = noted nothing c (turn e (k .sheet) s c .said) .gone y
+withdrew e s (returned k (ratio z t i j)) y = false
+withdrew e s (returned k (forward z q i)) y = false
+withdrew e s (cutIn o b w m) y = false
 
 -- The same of a list of events, and the state that it leaves.
 unfoldable pub afterAll : Engine → State → List Event → State
@@ -152,11 +174,6 @@ afterAll e s (v ∷ l) = afterAll e (leaves e s v) l
 unfoldable pub everWithdrew : Engine → State → List Event → ℕ → Bool
 everWithdrew e s [] y = false
 everWithdrew e s (v ∷ l) y = withdrew e s v y || everWithdrew e (leaves e s v) l y
-
--- A refusal by 9, or by what the call gets before it.
-pub record Early (s : Said) : Type 0 where
-  pub refused : accepted s ≡ false
-  pub early : s .number ≤ 9
 
 -- Every call that brings y, with any sheet, walk and rows, is refused, and leaves register, walk and rows.
 pub record Shut (e : Engine) (g : List ℕ) (y : ℕ) : Type 0 where
@@ -172,14 +189,22 @@ pub record Shut (e : Engine) (g : List ℕ) (y : ℕ) : Type 0 where
       Early (e .ratio x g w l j k .said) × (e .ratio x g w l j k .walk ≡ w) × (e .ratio x g w l j k .rows ≡ l)
   pub forward : (x : Brought) (q : List ℕ) (i : ℕ) → x .number ≡ y → Early (e .forward x g q i .said) × (e .forward x g q i .row ≡ q)
 
--- A number whose accepted withdrawal has returned is shut, wherever the power failed and whatever byte, walk and rows were found then.
+-- A number whose accepted withdrawal has returned is shut, whatever calls of the seven came before and after it,
+-- wherever the power failed, and whatever byte, walk and rows were found then.
+-- So is, at every moment, one that the register says withdrawn at the start, by whatever byte: neither FF nor A5.
 -- The register keeps its length, so that a list of calls can go on from what was found.
 pub record Forever (e : Engine) (start : State) (l : List Event) : Type 0 where
   pub shut : (y : ℕ) → everWithdrew e start l y ≡ true → Shut e (afterAll e start l .register) y
+  pub stays : (y : ℕ) → ¬ (Unissued (start .register) y ⊎ Live (start .register) y) → Shut e (afterAll e start l .register) y
   pub whole : length (afterAll e start l .register) ≡ length (start .register)
 
 -- A write only clears bits: the byte that an accepted issue or withdraw leaves is one that a cut in it may leave, and a cut withdrawal is never found unissued.
+-- Every other byte is left as it was, and by a refused call the whole register.
 pub record Clears (e : Engine) (g : List ℕ) (y : ℕ) : Type 0 where
   pub issue : accepted (e .issue g y .said) ≡ true → mayBeLeft (getD g y 0) (getD (e .issue g y .register) y 0) (getD (e .issue g y .register) y 0) ≡ true
   pub withdraw : accepted (e .withdraw g y .said) ≡ true → mayBeLeft (getD g y 0) (getD (e .withdraw g y .register) y 0) (getD (e .withdraw g y .register) y 0) ≡ true
   pub withdraw-cut : accepted (e .withdraw g y .said) ≡ true → (b : ℕ) → b < 256 → mayBeLeft (getD g y 0) (getD (e .withdraw g y .register) y 0) b ≡ true → b ≢ 0xFF
+  pub issue-others : (z : ℕ) → z ≢ y → getD (e .issue g y .register) z 0 ≡ getD g z 0
+  pub withdraw-others : (z : ℕ) → z ≢ y → getD (e .withdraw g y .register) z 0 ≡ getD g z 0
+  pub issue-refused : accepted (e .issue g y .said) ≡ false → e .issue g y .register ≡ g
+  pub withdraw-refused : accepted (e .withdraw g y .said) ≡ false → e .withdraw g y .register ≡ g

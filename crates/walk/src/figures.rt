@@ -62,7 +62,7 @@ pub(crate) fn node_at(
 {
     let place = tranche * (pool.names + 1) + count;
     Node {
-        loss: rows::figures::loss_at(pool, attachments, tranche, count),
+        loss: tranches::figures::loss_at(pool, attachments, tranche, count),
         default: defaults[place],
         premium: premiums[place],
     }

@@ -3,8 +3,8 @@ ghost use mathlib.Core.Path.{_≡_};
 ghost use Rattle.sheet.specs.Brought.{brought};
 ghost use Rattle.walk.specs.Answers;
 ghost use Rattle.walk.specs.Lists.{same, opening, back, value};
-ghost use Rattle.walk.specs.Does.{Forwards};
-ghost use Rattle.walk.specs.Ours.{filled};
+ghost use Rattle.walk.specs.Does.{Hedges, Forwards};
+ghost use Rattle.walk.specs.Ours.{moved, filled};
 ghost use Rattle.walk.specs.Tied.{Promised};
 ghost use Rattle.walk.specs.Calls.{
   replied,
@@ -147,7 +147,7 @@ impl Walk {
                 walk: self,
             };
         }
-        rows::walk_back(
+        backward::walk_back(
             pool,
             attachments,
             hazards,
@@ -234,7 +234,8 @@ impl Walk {
         tranche: usize,
         count: usize,
     ) -> Reply
-        ensures { λ r. ⌜ replied r (now (defaults .entry)) (now (premiums .entry)) ≡ ratioCall (brought pool (now (attachments .entry)) (now (hazards .entry)) (now (discounts .entry)) (now (accruals .entry)) (now (coupons .entry))) (now (register .entry)) self (rowsOf (now (defaults .entry)) (now (premiums .entry))) tranche count ⌝ }
+        ensures gives { λ r. ⌜ replied r (now (defaults .entry)) (now (premiums .entry)) ≡ ratioCall (brought pool (now (attachments .entry)) (now (hazards .entry)) (now (discounts .entry)) (now (accruals .entry)) (now (coupons .entry))) (now (register .entry)) self (rowsOf (now (defaults .entry)) (now (premiums .entry))) tranche count ⌝ }
+        ensures rule { λ r. ⌜ Hedges (brought pool (now (attachments .entry)) (now (hazards .entry)) (now (discounts .entry)) (now (accruals .entry)) (now (coupons .entry))) (now (register .entry)) self (rowsOf (now (defaults .entry)) (now (premiums .entry))) tranche count (moved (replied r (now (defaults .entry)) (now (premiums .entry)))) ⌝ }
     {
         let found = checks::to_twelve(
             self,
@@ -303,8 +304,8 @@ pub fn forward(
     row: &mut [u64],
     steps: usize,
 ) -> Answer
-    ensures { λ r. ⌜ filledBy r (now (row .exit)) ≡ forwardCall (brought pool (now (attachments .entry)) (now (hazards .entry)) (now (discounts .entry)) (now (accruals .entry)) (now (coupons .entry))) (now (register .entry)) (now (row .entry)) steps ⌝ }
-    ensures near { λ r. ⌜ Forwards (brought pool (now (attachments .entry)) (now (hazards .entry)) (now (discounts .entry)) (now (accruals .entry)) (now (coupons .entry))) (now (register .entry)) (now (row .entry)) steps (filled (filledBy r (now (row .exit)))) ⌝ }
+    ensures gives { λ r. ⌜ filledBy r (now (row .exit)) ≡ forwardCall (brought pool (now (attachments .entry)) (now (hazards .entry)) (now (discounts .entry)) (now (accruals .entry)) (now (coupons .entry))) (now (register .entry)) (now (row .entry)) steps ⌝ }
+    ensures rule { λ r. ⌜ Forwards (brought pool (now (attachments .entry)) (now (hazards .entry)) (now (discounts .entry)) (now (accruals .entry)) (now (coupons .entry))) (now (register .entry)) (now (row .entry)) steps (filled (filledBy r (now (row .exit)))) ⌝ }
 {
     let lent = checks::row_differs(pool, register, row);
     let found = checks::to_ten(

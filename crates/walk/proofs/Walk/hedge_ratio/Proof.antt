@@ -1,14 +1,17 @@
 -- By the checks 1 to 12, then by the node, then by the two jumps. Assumes nothing.
 use borrow.Author.Needs.{needs, sfits-of}
 use mathlib.Core.Path.{_≡_, sym, _∙_, subst}
-use mathlib.Core.List.{[]}
+use mathlib.Core.List.{List, []}
 use lib.Dec.{ltb}
 use Rattle.sheet.specs.Brought.{Brought, brought}
 use Rattle.sheet.specs.declared.Found.the-variants.{Fine}
 use Rattle.sheet.specs.Tests.{first}
 use Rattle.rows.proofs.Search.{met-left, met-right}
+use Rattle.walk.specs.declared.Walk.{Walk}
 use Rattle.walk.specs.Answers.{Rows}
-use Rattle.walk.specs.Calls.{rowsOf, twelveTests}
+use Rattle.walk.specs.Calls.{Outcome, rowsOf, twelveTests, ratioCall}
+use Rattle.walk.specs.Does.{Hedges}
+use Rattle.walk.specs.Ours.{moved}
 use Prim.Native.Nat.{ℕ, suc, _≤_}
 use native.Mathlib.Nat.{le-refl, le-of-lt}
 use borrow.Author.Tests.{lt-ltb, le-leb}
@@ -18,11 +21,12 @@ use mir.ValLaws.{toZ-ofZ}
 use lib.IntN.{ℤ, natAbs}
 use Rattle.cash.specs.Hedges.{hedgeOf}
 use Rattle.rows.specs.Limits.{Tranched}
-use Rattle.rows.proofs.Losses.{limits-bare}
+use Rattle.tranches.proofs.Losses.{limits-bare}
 use Rattle.walk.specs.Table.{jump}
 use Rattle.walk.specs.Reads.{Readable, hedgeAnswer}
 use Rattle.walk.proofs.Ordering.{OnWay}
 use Rattle.walk.proofs.Bounds.{rows-limits}
+use Rattle.walk.proofs.Ruled.{hedges}
 use Rattle.walk.proofs.Ends.{on-way, readable, readable-told, jump-told, jump-few, ratio-not, ratio-off, ratio-done}
 use Rattle.walk.proofs.Walk.hedge_ratio.Statement.{statement}
 use Rattle.walk.proofs.Walk.hedge_ratio.Tie as tie
@@ -37,6 +41,11 @@ rows s = rowsOf (s .args .defaults .now) (s .args .premiums .now)
 abbrev start : tie.After-to-twelve → tie.Start
 start p = p .before .before .before .before .before .before .before .before .before
 
+-- an outcome that is ours keeps the rule of ours
+gives : (x : Brought) (g : List ℕ) (w : Walk) (l : Rows) (j k : ℕ) {o : Outcome} → o ≡ ratioCall x g w l j k →
+    (o ≡ ratioCall x g w l j k) × Hedges x g w l j k (moved o)
+gives x g w l j k e = (e, rw e (hedges x g w l j k))
+
 to-twelve-requires : tie.Need-to-twelve-requires
 to-twelve-requires c κs = search needs
 
@@ -47,7 +56,7 @@ returns : tie.Need-returns
 returns c =
     let p = c .before .before .before in
     let s = start p in
-    ratio-not (sheet s) (s .args .register .now) (s .args .self) (rows s) (sym (p .to-twelve .ensures) ∙ c .before .found .given .1) (s .args .tranche) (s .args .count)
+    gives _ _ _ _ _ _ (ratio-not (sheet s) (s .args .register .now) (s .args .self) (rows s) (sym (p .to-twelve .ensures) ∙ c .before .found .given .1) (s .args .tranche) (s .args .count))
 
 enum-told : tie.Need-enum-told
 enum-told c = search needs
@@ -63,14 +72,14 @@ returns-2 : tie.Need-returns-2
 returns-2 c =
     let t = c .before .before in
     let s = start (t .before .before) in
-    ratio-off (sheet s) (s .args .register .now) (s .args .self) (rows s) (passed t) (s .args .tranche) (s .args .count) (met-left _ _ (lt-ltb _ _ (c .if1 .taken)))
+    gives _ _ _ _ _ _ (ratio-off (sheet s) (s .args .register .now) (s .args .self) (rows s) (passed t) (s .args .tranche) (s .args .count) (met-left _ _ (lt-ltb _ _ (c .if1 .taken))))
 
 returns-3 : tie.Need-returns-3
 returns-3 c =
     let i = c .before .before in
     let t = i .before .before in
     let s = start (t .before .before) in
-    ratio-off (sheet s) (s .args .register .now) (s .args .self) (rows s) (passed t) (s .args .tranche) (s .args .count) (met-right (ltb (s .args .pool .tranches) (s .args .tranche)) _ (le-leb _ _ (c .if2 .taken)))
+    gives _ _ _ _ _ _ (ratio-off (sheet s) (s .args .register .now) (s .args .self) (rows s) (passed t) (s .args .tranche) (s .args .count) (met-right (ltb (s .args .pool .tranches) (s .args .tranche)) _ (le-leb _ _ (c .if2 .taken))))
 
 -- ---- a node on the tree with a next count
 
@@ -129,8 +138,9 @@ returns-4 c =
     let own = own-read q ∙ jump-told (a .pool) (a .attachments .now) (a .hazards .now) (a .discounts .now) (a .accruals .now) (a .coupons .now) (rows s) (a .tranche) (a .count) in
     let index = index-read q ∙ jump-told (a .pool) (a .attachments .now) (a .hazards .now) (a .discounts .now) (a .accruals .now) (a .coupons .now) (rows s) (a .pool .tranches) (a .count) in
     let r = c .ratio-of .ensures ∙ (λ i. hedgeAnswer (hedgeOf (own i) (index i))) in
-    (λ i. record { answer = r i; walk = a .self; rows = rows s })
-    ∙ ratio-done (sheet s) (a .register .now) (a .self) (rows s) (passed (at-node n)) (a .tranche) (a .count) (own-tranche n) (n .if2 .left)
+    gives _ _ _ _ _ _
+    ((λ i. record { answer = r i; walk = a .self; rows = rows s })
+    ∙ ratio-done (sheet s) (a .register .now) (a .self) (rows s) (passed (at-node n)) (a .tranche) (a .count) (own-tranche n) (n .if2 .left))
 
 pub hedge-ratio-spec : {M : Type 1} → statement M
 hedge-ratio-spec =
