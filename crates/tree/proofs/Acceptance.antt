@@ -1,13 +1,15 @@
 -- The trial entries, by computation. Assumes nothing.
 use mathlib.Core.Path.{refl}
+use lib.Dec.{lit≤}
 use Rattle.cash.specs.Units.{B, half}
+use Rattle.cash.specs.Sums.{sumTo}
 use Rattle.cash.specs.Losses.{poolLoss, trancheLoss, trancheOutstanding, indexOutstanding, defaultPayment, premiumPayment}
 use Rattle.tree.specs.Paths.{allMoves, keeps, those, paths, weight, paid, total, pathSum, exact}
-use Rattle.tree.specs.Backward.{rollNode, backFrom, back, legValue, legExact}
-use Rattle.tree.specs.Legs.{defaultCash, premiumCash, premiumExact}
-use Rattle.tree.specs.Sheet.{hazardOf, discountOf, accrualOf, poolLossOf, lossOf, outstandingOf, treeOf, defaultOf, premiumOf, D, A, exactD, exactA}
-use Rattle.tree.specs.Forward.{same, moved, fromBelow, pushed, distribution, lands, probability}
-use Rattle.tree.specs.Trials.{Starred, Exactly, Roundings}
+use Rattle.tree.specs.Backward.{rollNode, backFrom, back, over, legValue, legExact}
+use Rattle.tree.specs.Legs.{defaultCash, premiumCash, premiumExact, mark}
+use Rattle.tree.specs.Sheet.{hazardOf, discountOf, accrualOf, poolLossOf, lossOf, outstandingOf, treeOf, defaultOf, premiumOf, D, A, exactD, exactA, dates, spanning}
+use Rattle.tree.specs.Forward.{same, moved, fromBelow, pushed, distribution, lands, probability, apart, errors}
+use Rattle.tree.specs.Trials.{Starred, Exactly, Roundings, Bounds}
 
 pub starred : Starred
 unfolding B half poolLoss trancheLoss trancheOutstanding indexOutstanding defaultPayment premiumPayment rollNode backFrom back legValue defaultCash premiumCash hazardOf discountOf accrualOf poolLossOf lossOf outstandingOf treeOf defaultOf premiumOf D A same moved fromBelow pushed distribution
@@ -63,4 +65,13 @@ roundings =
       row-at-0 = refl;
       row-at-1 = refl;
       row-at-2 = refl;
+    }
+
+pub bounds : Bounds
+unfolding B half sumTo poolLoss trancheLoss trancheOutstanding defaultPayment premiumPayment rollNode backFrom back over legValue defaultCash premiumCash mark hazardOf discountOf accrualOf poolLossOf lossOf outstandingOf treeOf defaultOf premiumOf D A dates spanning allMoves keeps those paths weight total pathSum same moved fromBelow pushed distribution lands probability apart errors
+bounds =
+    record {
+      defaults-add = record { below = lit≤ tt; above = lit≤ tt };
+      premiums-add = record { below = lit≤ tt; above = lit≤ tt };
+      errors = lit≤ tt;
     }

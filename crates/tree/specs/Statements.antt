@@ -19,14 +19,20 @@ pub record Distance (x : Sheet) : Type 0 where
   pub premium : (j h i k : ℕ) → k ≤ x .names →
       Near ((2 * h + dates x h i) * B ^ (2 * h + 1)) (2 * (A x j h i k * B ^ (2 * h + 1))) (2 * exactA x j h i k)
 
--- The tranches add to the one that spans them: exactly in their exact values, and within r + 1 times the distance by the rounded rule.
+-- The tranches add to the one that spans them within r + 1 times the distance, by the rounded rule at one node (A doubled).
+abbrev pub DefaultsAdd : Sheet → ℕ → ℕ → ℕ → Type 0
+DefaultsAdd x h i k = Near ((x .tranches + 1) * h) (sumTo (x .tranches) (λ j. D x j h i k)) (D (spanning x) 0 h i k)
+
+abbrev pub PremiumsAdd : Sheet → ℕ → ℕ → ℕ → Type 0
+PremiumsAdd x h i k =
+    Near ((x .tranches + 1) * (2 * h + dates x h i)) (2 * sumTo (x .tranches) (λ j. A x j h i k)) (2 * A (spanning x) 0 h i k)
+
+-- And exactly in their exact values.
 pub record Additive (x : Sheet) : Type 0 where
   pub default-exact : (h i k : ℕ) → sumTo (x .tranches) (λ j. exactD x j h i k) ≡ exactD (spanning x) 0 h i k
   pub premium-exact : (h i k : ℕ) → sumTo (x .tranches) (λ j. exactA x j h i k) ≡ exactA (spanning x) 0 h i k
-  pub default : (h i k : ℕ) → k ≤ x .names →
-      Near ((x .tranches + 1) * h) (sumTo (x .tranches) (λ j. D x j h i k)) (D (spanning x) 0 h i k)
-  pub premium : (h i k : ℕ) → k ≤ x .names →
-      Near ((x .tranches + 1) * (2 * h + dates x h i)) (2 * sumTo (x .tranches) (λ j. A x j h i k)) (2 * A (spanning x) 0 h i k)
+  pub default : (h i k : ℕ) → k ≤ x .names → DefaultsAdd x h i k
+  pub premium : (h i k : ℕ) → k ≤ x .names → PremiumsAdd x h i k
 
 -- Every node of a walk from the last step keeps to its ceilings.
 pub record Ceilings (x : Sheet) : Type 0 where
@@ -38,7 +44,11 @@ pub record Jumps (x : Sheet) : Type 0 where
   pub default : (j h i k : ℕ) → k < x .names → D x j h i k ≤ defaultPayment (lossOf x j k) (lossOf x j (suc k)) + D x j h i (suc k)
   pub premium : (j h i k : ℕ) → k < x .names → A x j h i (suc k) ≤ A x j h i k
 
--- The distribution always totals B, and its errors total at most n × i units. ('Going forward')
+-- Its errors total at most n × i units after i steps. ('Going forward', as below)
+abbrev pub ErrorsWithin : Sheet → ℕ → Type 0
+ErrorsWithin x i = errors (treeOf x) i ≤ x .names * i * B ^ i
+
+-- The distribution always totals B.
 pub record Spread (x : Sheet) : Type 0 where
   pub whole : (i : ℕ) → sumTo (suc (x .names)) (distribution (treeOf x) i) ≡ B
-  pub error : (i : ℕ) → errors (treeOf x) i ≤ x .names * i * B ^ i
+  pub error : (i : ℕ) → ErrorsWithin x i

@@ -5,6 +5,7 @@ use mathlib.Core.List.{[], _∷_}
 use Rattle.cash.specs.Units.{B, half}
 use Rattle.tree.specs.Sheet.{Sheet, treeOf, poolLossOf, outstandingOf, D, A, exactD, exactA}
 use Rattle.tree.specs.Forward.{distribution, probability}
+use Rattle.tree.specs.Statements.{DefaultsAdd, PremiumsAdd, ErrorsWithin}
 
 -- The pool of 125 with two tranches. What is outstanding rests on no hazard, discount or accrual.
 abbrev pub wide : Sheet
@@ -46,6 +47,34 @@ uneven =
       hazards = 123_456_789 ∷ 234_567_891 ∷ 345_678_912 ∷ [];
       discounts = 987_654_321 ∷ 976_543_210 ∷ [];
       accruals = 250_000_000 ∷ 253_000_000 ∷ [];
+    }
+
+-- Eight tranches of one unit, each leg of each worth half a unit or less and rounded up to 1.
+abbrev pub units : Sheet
+units =
+    record {
+      names = 1;
+      steps = 1;
+      tranches = 8;
+      recovery = 999_999_992;
+      attachments = 0 ∷ 1 ∷ 2 ∷ 3 ∷ 4 ∷ 5 ∷ 6 ∷ 7 ∷ 8 ∷ [];
+      hazards = 500_000_000 ∷ [];
+      discounts = 1_000_000_000 ∷ [];
+      accruals = 500_000_000 ∷ [];
+    }
+
+-- Two names whose distribution gathers more than a unit of errors a step.
+abbrev pub drifting : Sheet
+drifting =
+    record {
+      names = 2;
+      steps = 3;
+      tranches = 1;
+      recovery = 400_000_000;
+      attachments = 0 ∷ 300_000_000 ∷ [];
+      hazards = 300_000_009 ∷ 48 ∷ [];
+      discounts = 1_000_000_000 ∷ 1_000_000_000 ∷ 1_000_000_000 ∷ [];
+      accruals = 0 ∷ 0 ∷ 1_000_000_000 ∷ [];
     }
 
 -- The starred entries. The deck's figures stand at its root; tranche 1 of it is the index.
@@ -95,3 +124,10 @@ pub record Roundings : Type 0 where
   pub row-at-0 : distribution (treeOf uneven) 2 0 ≡ 768_328_001
   pub row-at-1 : distribution (treeOf uneven) 2 1 ≡ 202_713_000
   pub row-at-2 : distribution (treeOf uneven) 2 2 ≡ 28_958_999
+
+-- What is owed between tranches, and of a distribution, where less would be false: the D of the eight units add to 8 and their A to 8,
+-- beside 4 and 2 of the one that spans them, and the errors of three steps total 3.3 units.
+pub record Bounds : Type 0 where
+  pub defaults-add : DefaultsAdd units 1 0 0
+  pub premiums-add : PremiumsAdd units 1 0 0
+  pub errors : ErrorsWithin drifting 3

@@ -15,9 +15,9 @@ use Rattle.walk.specs.Calls.{rowsBad, rowBad, walkBad, tenTests, twelveTests, o
 use Rattle.walk.specs.Does.{ruled}
 use Rattle.wrong.specs.Substitutes.{steppedBy, rolledBy, lowFirst, lowRow}
 use Rattle.walk.specs.Lists.{entered, begun, went, turn, noted, after, told}
-use Rattle.walk.specs.Promises.{heldD, heldA, heldWorth, Ruled}
+use Rattle.walk.specs.Promises.{heldD, heldA, heldWorth, Ruled, operate}
 use Rattle.walk.specs.Promise.{blankRun}
 
 unfoldable pub computed : Unit {0}
-unfolding B half poolLoss trancheLoss trancheOutstanding indexOutstanding defaultPayment premiumPayment netValue changeOf jumpOf signed millionths ratioOf allMoves keeps those paths weight paid total pathSum exact rollNode over legExact defaultCash premiumCash premiumExact mark hazardOf discountOf accrualOf poolLossOf lossOf widthOf outstandingOf treeOf defaultOf premiumOf exactD exactA dates sumOf defaultMost premiumMost same moved fromBelow pushed distribution tab entry grid any nodeIn rowOf rolled rolledBack anyOver soiled spreadRow poolBad listsBad recoveryBad attachmentsBad hazardsBad discountsBad accrualsBad couponsBad first sheetTests nodeOf jump rowsBad rowBad walkBad tenTests twelveTests openTests backTests valueTests ratioTests forwardTests orOutcome orFilled zeros rolls openCall backCall worth valueCall ratioCall forwardCall ruled entered begun went turn noted after told steppedBy rolledBy lowFirst lowRow heldD heldA heldWorth Ruled blankRun
+unfolding B half poolLoss trancheLoss trancheOutstanding indexOutstanding defaultPayment premiumPayment netValue changeOf jumpOf signed millionths ratioOf allMoves keeps those paths weight paid total pathSum exact rollNode over legExact defaultCash premiumCash premiumExact mark hazardOf discountOf accrualOf poolLossOf lossOf widthOf outstandingOf treeOf defaultOf premiumOf exactD exactA dates sumOf defaultMost premiumMost same moved fromBelow pushed distribution tab entry grid any nodeIn rowOf rolled rolledBack anyOver soiled spreadRow poolBad listsBad recoveryBad attachmentsBad hazardsBad discountsBad accrualsBad couponsBad first sheetTests nodeOf jump rowsBad rowBad walkBad tenTests twelveTests openTests backTests valueTests ratioTests forwardTests orOutcome orFilled zeros rolls openCall backCall worth valueCall ratioCall forwardCall ruled entered begun went turn noted after told steppedBy rolledBy lowFirst lowRow heldD heldA heldWorth Ruled operate blankRun
 computed = tt

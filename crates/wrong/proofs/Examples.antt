@@ -74,4 +74,10 @@ cuts =
       issue-can-be = refl;
       issued-anew = refl;
       issued-at-last = refl;
+      ratio-live = refl;
+      forward-live = refl;
+      asked-withdrawn = refl;
+      asked-byte = refl;
+      ratio-shut = refl;
+      forward-shut = refl;
     }

@@ -6,7 +6,7 @@ use mathlib.Core.List.{List, [], _∷_}
 use mathlib.Core.Option.{some}
 use mathlib.Core.Logic.{_⊎_, inl, inr}
 use native.Mathlib.Omega.{arith}
-use lib.ListN.{replicate, getD, set}
+use lib.ListN.{length, replicate, getD, set}
 use lib.Dec.{T, eqb, eqb-refl, le→leb, lit≤}
 use lib.IntN.{ℤ, pos, negsuc}
 use Rattle.register.specs.Rules.{Unissued, Live}
@@ -20,11 +20,11 @@ use Rattle.walk.specs.Table.{Order, Judges}
 use Rattle.walk.specs.Does.{Stepped, Walks}
 use Rattle.walk.specs.Engine.{Engine}
 use Rattle.walk.specs.Lists.{same, other, Call, issue, withdraw, opening, back, value, State, Book, blankState, history}
-use Rattle.walk.specs.Promises.{Event, returned, leaves, withdrew, afterAll, everWithdrew, Found}
+use Rattle.walk.specs.Promises.{call, Event, returned, leaves, withdrew, afterAll, everWithdrew, Found}
 use Rattle.walk.specs.Promise.{Rules, Demand3, blankRun}
-use Rattle.wrong.specs.Substitutes.{alwaysLive, issuedAgain, byteLeft, bitsSet, allRefused, exchangedNumbers, withdrawnFirst, notCleared, refusedZeroes, unissuedTaken, otherLength, zeroAlone, rowsLeft, oneFigure, rootAtOnce, oneRounding, roundedDown, countBefore, indexByLoss, positionMadeUp, stepEarly, zeroRefused, refusedMoves, oneAnswer, firstCoupon, netUnsigned, valueZeroes, withdrawnAnswered, ceilingsPassed, walkAbove, upsideDown, signLost, restCut, halfUpwards, paymentLost, flatForScale, stepShort, inPlace, refusedWrites}
-use Rattle.wrong.specs.Refuted.{Power, Clearing, NoneKeeps}
-use Rattle.wrong.specs.Examples.{bookOf, filled, deck, used, toRoot, whole, elsewhere}
+use Rattle.wrong.specs.Substitutes.{alwaysLive, issuedAgain, byteLeft, bitsSet, otherByteWritten, refusedStores, allRefused, exchangedNumbers, withdrawnFirst, notCleared, refusedZeroes, refusedCloses, unissuedTaken, otherLength, zeroAlone, rowsLeft, oneFigure, rootAtOnce, oneRounding, roundedDown, countBefore, premiumRoundedDown, indexByLoss, positionMadeUp, stepEarly, zeroRefused, refusedMoves, closedAtRoot, oneAnswer, firstCoupon, netUnsigned, valueZeroes, withdrawnAnswered, valueZeroAlone, refusedTells, walkAbove, upsideDown, signLost, restCut, halfUpwards, paymentLost, flatForScale, ratioAnswered, stepShort, inPlace, refusedWrites, forwardAnswered}
+use Rattle.wrong.specs.Refuted.{ceilingsPassed, Power, Clearing, NoneKeeps}
+use Rattle.wrong.specs.Examples.{bookOf, filled, deck, used, toRoot, whole, elsewhere, live, walkAt}
 use Rattle.wrong.proofs.Computing.{computed}
 
 -- ---- what an order says of an answer
@@ -74,16 +74,16 @@ abbrev code : ℤ → ℕ
 code (pos n) = 2 * n
 code (negsuc n) = 2 * n + 1
 
-abbrev figure : ℕ → Said → ℕ
+abbrev pub figure : ℕ → Said → ℕ
 figure i s = code (getD (s .values) i (pos 0))
 
 -- ---- lists
 
-abbrev opened : List Call → List Call
+abbrev pub opened : List Call → List Call
 opened l = issue 7 ∷ opening 7 (other used) ∷ l
 
 -- What demand 3 finds of a list that opens the number 7 and walks h steps back.
-found : {e : Engine} → Demand3 e → (k : Book) (l : List Call) (h : ℕ) → history e (blankRun k used l) .opened ≡ some 7 →
+pub found : {e : Engine} → Demand3 e → (k : Book) (l : List Call) (h : ℕ) → history e (blankRun k used l) .opened ≡ some 7 →
     history e (blankRun k used l) .walked ≡ h → history e (blankRun k used l) .own ≡ true → Found e (blankRun k used l) (k .sheet 7) h
 unfolding blankRun
 found d k l h p q r = d k used l .owed .found 7 h (record { opened = p; walked = q; own = r })
@@ -97,15 +97,16 @@ not-alwaysLive d = omega (arith, own _ _ (d deck used [] .serves .ruled (issue 7
 -- A number withdrawn in a list is answered by value.
 not-issuedAgain : Demand3 issuedAgain → ⊥
 unfolding computed
-not-issuedAgain d = true≢false (d deck used (issue 7 ∷ withdraw 7 ∷ issue 7 ∷ opening 7 (other used) ∷ []) .owed .hidden 7 refl same 0 0)
+not-issuedAgain d =
+    true≢false (d deck used (issue 7 ∷ withdraw 7 ∷ issue 7 ∷ opening 7 (other used) ∷ []) .owed .hidden 7 refl same 0 0 .refused)
 
 not-byteLeft : Demand3 byteLeft → ⊥
 unfolding computed
-not-byteLeft d = true≢false (d deck used (opened (withdraw 7 ∷ [])) .owed .hidden 7 refl same 0 0)
+not-byteLeft d = true≢false (d deck used (opened (withdraw 7 ∷ [])) .owed .hidden 7 refl same 0 0 .refused)
 
 -- Issued and withdrawn.
 abbrev ended : List Event
-ended = returned deck (issue 7) ∷ returned deck (withdraw 7) ∷ []
+ended = returned deck (call (issue 7)) ∷ returned deck (call (withdraw 7)) ∷ []
 
 not-issuedAgain-later : Power issuedAgain → ⊥
 unfolding computed everWithdrew withdrew leaves afterAll
@@ -122,6 +123,18 @@ not-bitsSet-later p = true≢false (p (blankState used) ended .shut 7 refl .issu
 not-bitsSet : Clearing bitsSet → ⊥
 unfolding computed
 not-bitsSet p = true≢false (sym (p (set blank 7 0xA5) 7 .withdraw refl))
+
+not-otherByteWritten : Clearing otherByteWritten → ⊥
+unfolding computed
+not-otherByteWritten p = omega (arith, p (set blank 0 0x00) 7 .issue-others 0 (λ e. omega (arith, e)))
+
+not-refusedStores-byte : Clearing refusedStores → ⊥
+unfolding computed
+not-refusedStores-byte p = omega (arith, ap (λ (g : List ℕ). getD g 7 0) (p blank 7 .withdraw-refused refl))
+
+not-refusedStores : Demand3 refusedStores → ⊥
+unfolding computed
+not-refusedStores d = omega (arith, ap (λ (s : State). getD (s .register) 7 0) (d deck used [] .serves .untouched (withdraw 7) refl))
 
 -- ---- open
 
@@ -160,6 +173,11 @@ not-refusedZeroes : Demand3 refusedZeroes → ⊥
 unfolding computed
 not-refusedZeroes d = omega (arith, ap (λ (s : State). getD (s .rows .defaults) 0 0) (d deck used [] .serves .untouched (opening 7 same) refl))
 
+-- An open of a number never issued, while another is walked.
+not-refusedCloses : Demand3 refusedCloses → ⊥
+unfolding computed
+not-refusedCloses d = omega (arith, ap (λ (s : State). s .walk .position) (d deck used (opened []) .serves .untouched (opening 8 same) refl))
+
 not-unissuedTaken : Demand3 unissuedTaken → ⊥
 unfolding computed
 not-unissuedTaken d = omega (arith, d deck used [] .serves .only 7 same refl .2 .byte)
@@ -179,7 +197,7 @@ unfolding computed
 not-rootAtOnce d = le→leb _ _ (found d deck (opened (back 7 same 1 ∷ [])) 1 refl refl refl .default-near 0 0 (lit≤ tt) (lit≤ tt) .below)
 
 -- Rows one step back, from a back by 1.
-stepped : (x : Sheet) (i : ℕ) (l m : Rows) → Walks x 1 i l m → Stepped x (i - 1) l m
+pub stepped : (x : Sheet) (i : ℕ) (l m : Rows) → Walks x 1 i l m → Stepped x (i - 1) l m
 unfolding Walks
 stepped x i l m (q, s, e) = subst (Stepped x (i - 1) l) e s
 
@@ -199,6 +217,11 @@ not-roundedDown d =
 not-countBefore : Demand3 countBefore → ⊥
 unfolding computed
 not-countBefore d = le→leb _ _ (found d deck (opened (back 7 same 1 ∷ [])) 1 refl refl refl .premium-near 0 0 (lit≤ tt) (lit≤ tt) .below)
+
+not-premiumRoundedDown : Demand3 premiumRoundedDown → ⊥
+unfolding computed
+not-premiumRoundedDown d =
+    omega (arith, stepped uneven 2 _ _ (d whole used openedPool .serves .ruled (back 7 same 1) .does refl .rows) .premium 1 0 (lit≤ tt) (lit≤ tt))
 
 not-indexByLoss : Demand3 indexByLoss → ⊥
 unfolding computed
@@ -221,6 +244,10 @@ not-refusedMoves : Demand3 refusedMoves → ⊥
 unfolding computed
 not-refusedMoves d = omega (arith, ap (λ (s : State). s .walk .position) (d deck used (opened []) .serves .untouched (back 7 same 3) refl))
 
+not-closedAtRoot : Demand3 closedAtRoot → ⊥
+unfolding computed
+not-closedAtRoot d = omega (arith, ap (λ (w : Walk). w .number) (found d deck toRoot 2 refl refl refl .walk))
+
 -- ---- value
 
 not-oneAnswer : Demand3 oneAnswer → ⊥
@@ -242,7 +269,16 @@ not-valueZeroes d =
 
 not-withdrawnAnswered : Demand3 withdrawnAnswered → ⊥
 unfolding computed
-not-withdrawnAnswered d = true≢false (d deck used (opened (withdraw 7 ∷ [])) .owed .hidden 7 refl same 0 0)
+not-withdrawnAnswered d = true≢false (d deck used (opened (withdraw 7 ∷ [])) .owed .hidden 7 refl same 0 0 .refused)
+
+not-refusedTells : Demand3 refusedTells → ⊥
+unfolding computed
+not-refusedTells d = omega (arith, ap length (d deck used (opened (withdraw 7 ∷ [])) .owed .hidden 7 refl same 0 0 .silent))
+
+not-refusedTells-later : Power refusedTells → ⊥
+unfolding computed everWithdrew withdrew leaves afterAll
+not-refusedTells-later p =
+    omega (arith, ap length (p (blankState used) ended .shut 7 refl .value (deck .sheet 7) (walkAt 2) (filled 6 0) 0 0 refl .0 .silent))
 
 not-ceilingsPassed : Demand3 ceilingsPassed → ⊥
 unfolding computed
@@ -251,26 +287,34 @@ not-ceilingsPassed d =
 
 -- ---- what no list from a blank register shows
 
-abbrev sheet : Brought
+abbrev pub sheet : Brought
 sheet = deck .sheet 7
-
-abbrev live : List ℕ
-live = set blank 7 0xA5
-
-abbrev walkAt : ℕ → Walk
-walkAt i = record { «open» = true; number = 7; position = i }
 
 not-otherLength : Rules otherLength → ⊥
 unfolding computed
 not-otherLength r = omega (arith, kept _ _ (r .opening sheet (replicate 8 0xA5) fresh used .judged) 2 .size)
 
+-- A byte that a cut withdrawal may leave.
+abbrev cut : List ℕ
+cut = set blank 7 0x84
+
+cut-gone : ¬ (Unissued cut 7 ⊎ Live cut 7)
+unfolding computed
+cut-gone (inl u) = omega (arith, u .byte)
+cut-gone (inr u) = omega (arith, u .byte)
+
 not-zeroAlone : Rules zeroAlone → ⊥
 unfolding computed
-not-zeroAlone r = go (kept _ _ (r .opening sheet (set blank 7 0x84) fresh used .judged) 9)
-  where
-    go : Unissued (set blank 7 0x84) 7 ⊎ Live (set blank 7 0x84) 7 → ⊥
-    go (inl u) = omega (arith, u .byte)
-    go (inr u) = omega (arith, u .byte)
+not-zeroAlone r = cut-gone (kept _ _ (r .opening sheet cut fresh used .judged) 9)
+
+not-zeroAlone-later : Power zeroAlone → ⊥
+unfolding computed afterAll
+not-zeroAlone-later p =
+    true≢false (p (record { register = cut; walk = fresh; rows = used }) [] .stays 7 cut-gone .opening sheet fresh used refl .0 .refused)
+
+not-valueZeroAlone : Rules valueZeroAlone → ⊥
+unfolding computed
+not-valueZeroAlone r = cut-gone (kept _ _ (r .value sheet cut (walkAt 2) (filled 6 0) 0 0 .judged) 9)
 
 not-walkAbove : Rules walkAbove → ⊥
 unfolding computed
@@ -302,6 +346,10 @@ not-flatForScale : Rules flatForScale → ⊥
 unfolding computed
 not-flatForScale r = kept _ _ (r .ratio sheet live (walkAt 0) (elsewhere 0 300_000_000 0 0) 0 0 .judged) 15 refl
 
+not-ratioAnswered-later : Power ratioAnswered → ⊥
+unfolding computed everWithdrew withdrew leaves afterAll
+not-ratioAnswered-later p = true≢false (p (blankState used) ended .shut 7 refl .ratio sheet (walkAt 2) (filled 6 0) 0 0 refl .0 .refused)
+
 -- ---- forward
 
 not-stepShort : Rules stepShort → ⊥
@@ -316,6 +364,10 @@ not-refusedWrites : Rules refusedWrites → ⊥
 unfolding computed
 not-refusedWrites r = omega (arith, ap (λ (q : List ℕ). getD q 0 0) (r .forward sheet blank (replicate 3 0) 1 .leaves refl))
 
+not-forwardAnswered-later : Power forwardAnswered → ⊥
+unfolding computed everWithdrew withdrew leaves afterAll
+not-forwardAnswered-later p = true≢false (p (blankState used) ended .shut 7 refl .forward sheet (replicate 3 0) 1 refl .0 .refused)
+
 pub none-keeps : NoneKeeps
 none-keeps =
     record {
@@ -325,12 +377,20 @@ none-keeps =
       issued-again-later = not-issuedAgain-later;
       byte-left-later = not-byteLeft-later;
       bits-set-later = not-bitsSet-later;
+      zero-alone-later = not-zeroAlone-later;
+      refused-tells-later = not-refusedTells-later;
+      ratio-answered-later = not-ratioAnswered-later;
+      forward-answered-later = not-forwardAnswered-later;
       bits-set = not-bitsSet;
+      other-byte-written = not-otherByteWritten;
+      refused-stores-byte = not-refusedStores-byte;
+      refused-stores = not-refusedStores;
       all-refused = not-allRefused;
       exchanged-numbers = not-exchangedNumbers;
       withdrawn-first = not-withdrawnFirst;
       not-cleared = not-notCleared;
       refused-zeroes = not-refusedZeroes;
+      refused-closes = not-refusedCloses;
       unissued-taken = not-unissuedTaken;
       rows-left = not-rowsLeft;
       one-figure = not-oneFigure;
@@ -338,19 +398,23 @@ none-keeps =
       one-rounding = not-oneRounding;
       rounded-down = not-roundedDown;
       count-before = not-countBefore;
+      premium-rounded-down = not-premiumRoundedDown;
       index-by-loss = not-indexByLoss;
       position-made-up = not-positionMadeUp;
       step-early = not-stepEarly;
       zero-refused = not-zeroRefused;
       refused-moves = not-refusedMoves;
+      closed-at-root = not-closedAtRoot;
       one-answer = not-oneAnswer;
       first-coupon = not-firstCoupon;
       net-unsigned = not-netUnsigned;
       value-zeroes = not-valueZeroes;
       withdrawn-answered = not-withdrawnAnswered;
+      refused-tells = not-refusedTells;
       ceilings-passed = not-ceilingsPassed;
       other-length = not-otherLength;
       zero-alone = not-zeroAlone;
+      value-zero-alone = not-valueZeroAlone;
       walk-above = not-walkAbove;
       upside-down = not-upsideDown;
       sign-lost = not-signLost;

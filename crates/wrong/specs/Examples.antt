@@ -11,11 +11,12 @@ use Rattle.tree.specs.Sheet.{Sheet, spanning}
 use Rattle.tree.specs.Trials.{worked, uneven}
 use Rattle.sheet.specs.Brought.{Brought, brought}
 use Rattle.sheet.specs.Limits.{Limits}
+use Rattle.walk.specs.declared.Walk.{Walk}
 use Rattle.walk.specs.Answers.{Rows, fresh, Said}
 use Rattle.walk.specs.Does.{Moved, says}
 use Rattle.walk.specs.Ours.{ours}
 use Rattle.walk.specs.Lists.{same, other, Call, issue, withdraw, opening, back, value, State, turn, Book, Run, blankState, end}
-use Rattle.walk.specs.Promises.{Walked, heldD, heldA, Event, returned, cutIn, afterAll, everWithdrew}
+use Rattle.walk.specs.Promises.{Walked, heldD, heldA, Operation, call, ratio, forward, operate, Event, returned, cutIn, afterAll, everWithdrew}
 use Rattle.walk.specs.Promise.{blankRun}
 
 -- ---- sheets, rows and lists
@@ -33,6 +34,13 @@ deck = bookOf worked (1_000_000 ∷ 500_000 ∷ [])
 
 abbrev pub used : Rows
 used = filled 6 1
+
+-- The number 7 live, and its walk at the step i.
+abbrev pub live : List ℕ
+live = set blank 7 0xA5
+
+abbrev pub walkAt : ℕ → Walk
+walkAt i = record { «open» = true; number = 7; position = i }
 
 abbrev pub toRoot : List Call
 toRoot = issue 7 ∷ opening 7 (other used) ∷ back 7 same 2 ∷ []
@@ -149,7 +157,7 @@ abbrev pub openedWith : ℕ → ℕ → List ℕ → ℕ → ℕ → ℕ → ℕ
 openedWith names recovery attachments hazard discount accrual coupon =
     ours .opening
     (brought (record { names = names; steps = 1; tranches = 1; recovery = recovery; number = 7 }) attachments (hazard ∷ []) (discount ∷ []) (accrual ∷ []) (coupon ∷ 0 ∷ []))
-    (set blank 7 0xA5) fresh (filled 4 0) .said
+    live fresh (filled 4 0) .said
 
 pub record Refusals : Type 0 where
   pub listing : Plays deck refusedScript
@@ -185,34 +193,59 @@ pub record Ratios : Type 0 where
 
 -- The number 7 is issued, and the power fails in its withdrawal: the byte b is found.
 abbrev pub cutWithdrawal : ℕ → List Event
-cutWithdrawal b = returned deck (issue 7) ∷ cutIn (withdraw 7) b fresh used ∷ []
+cutWithdrawal b = returned deck (call (issue 7)) ∷ cutIn (call (withdraw 7)) b fresh used ∷ []
 
 abbrev pub cutIssue : ℕ → List Event
-cutIssue b = cutIn (issue 7) b fresh used ∷ []
+cutIssue b = cutIn (call (issue 7)) b fresh used ∷ []
 
 abbrev pub left : List Event → State
 left l = afterAll ours (blankState used) l
 
 -- What a call is answered after events.
-abbrev pub saidAfter : List Event → Call → Said
-saidAfter l c = turn ours (deck .sheet) (left l) c .said
+abbrev pub saidAfter : List Event → Operation → Said
+saidAfter l o = operate ours (deck .sheet) (left l) o .said
 
 -- A withdrawal that found the number live still, is made again and returns; then the power fails in the issue of another number.
 abbrev pub again : List Event
-again = cutWithdrawal 0xA5 ++ (returned deck (withdraw 7) ∷ cutIn (issue 8) 0xB7 fresh used ∷ [])
+again = cutWithdrawal 0xA5 ++ (returned deck (call (withdraw 7)) ∷ cutIn (call (issue 8)) 0xB7 fresh used ∷ [])
+
+-- The number 7 is issued and opened.
+abbrev pub started : List Event
+started = returned deck (call (issue 7)) ∷ returned deck (call (opening 7 same)) ∷ []
+
+-- A hedge ratio and a forward of it.
+abbrev pub ratioAsked : Operation
+ratioAsked = ratio 7 same 0 0
+
+abbrev pub forwardAsked : Operation
+forwardAsked = forward 7 (replicate 3 5) 2
+
+-- Both return, and the power fails in both.
+abbrev pub asked : List Event
+asked = returned deck ratioAsked ∷ returned deck forwardAsked ∷ cutIn ratioAsked 0xA5 fresh used ∷ cutIn forwardAsked 0xA5 fresh used ∷ []
+
+-- So before the number is withdrawn, and after.
+abbrev pub askedTwice : List Event
+askedTwice = started ++ (asked ++ (returned deck (call (withdraw 7)) ∷ asked))
 
 pub record Cuts : Type 0 where
   pub can-be : mayBeLeft 0xA5 0x00 0x84 ≡ true
   pub byte : getD (left (cutWithdrawal 0x84) .register) 7 0 ≡ 0x84
-  pub gone : saidAfter (cutWithdrawal 0x84) (opening 7 same) ≡ refused 9
-  pub not-issued : saidAfter (cutWithdrawal 0x84) (issue 7) ≡ refused 9
+  pub gone : saidAfter (cutWithdrawal 0x84) (call (opening 7 same)) ≡ refused 9
+  pub not-issued : saidAfter (cutWithdrawal 0x84) (call (issue 7)) ≡ refused 9
   pub not-returned : everWithdrew ours (blankState used) (cutWithdrawal 0x84) 7 ≡ false
   pub still-can-be : mayBeLeft 0xA5 0x00 0xA5 ≡ true
-  pub still-live : saidAfter (cutWithdrawal 0xA5) (opening 7 same) ≡ says []
+  pub still-live : saidAfter (cutWithdrawal 0xA5) (call (opening 7 same)) ≡ says []
   pub returned : everWithdrew ours (blankState used) again 7 ≡ true
-  pub shut : saidAfter again (opening 7 same) ≡ refused 9
+  pub shut : saidAfter again (call (opening 7 same)) ≡ refused 9
   pub other-byte : getD (left again .register) 8 0 ≡ 0xB7
-  pub other-shut : saidAfter again (issue 8) ≡ refused 9
+  pub other-shut : saidAfter again (call (issue 8)) ≡ refused 9
   pub issue-can-be : mayBeLeft 0xFF 0xA5 0xFF ≡ true
-  pub issued-anew : saidAfter (cutIssue 0xFF) (issue 7) ≡ says []
-  pub issued-at-last : saidAfter (cutIssue 0xA5) (issue 7) ≡ refused 17
+  pub issued-anew : saidAfter (cutIssue 0xFF) (call (issue 7)) ≡ says []
+  pub issued-at-last : saidAfter (cutIssue 0xA5) (call (issue 7)) ≡ refused 17
+  pub ratio-live : saidAfter started ratioAsked ≡ says (pos 1_000_000 ∷ [])
+  pub forward-live : saidAfter (started ++ asked) forwardAsked ≡ says []
+  pub asked-withdrawn : everWithdrew ours (blankState used) askedTwice 7 ≡ true
+  pub asked-byte : getD (left askedTwice .register) 7 0 ≡ 0x00
+  pub ratio-shut : saidAfter askedTwice ratioAsked ≡ refused 9
+  pub forward-shut : saidAfter askedTwice forwardAsked ≡ refused 9

@@ -5,7 +5,12 @@ use Rattle.walk.specs.Engine.{Engine}
 use Rattle.walk.specs.Lists.{State}
 use Rattle.walk.specs.Promises.{Event, Forever, Clears}
 use Rattle.walk.specs.Promise.{Rules, Demand3}
-use Rattle.wrong.specs.Substitutes.{alwaysLive, issuedAgain, byteLeft, bitsSet, allRefused, exchangedNumbers, withdrawnFirst, notCleared, refusedZeroes, unissuedTaken, rowsLeft, oneFigure, rootAtOnce, oneRounding, roundedDown, countBefore, indexByLoss, positionMadeUp, stepEarly, zeroRefused, refusedMoves, oneAnswer, firstCoupon, netUnsigned, valueZeroes, withdrawnAnswered, ceilingsPassed, otherLength, zeroAlone, walkAbove, upsideDown, signLost, restCut, halfUpwards, paymentLost, flatForScale, stepShort, inPlace, refusedWrites}
+use Rattle.wrong.specs.Substitutes.{alwaysLive, issuedAgain, byteLeft, bitsSet, otherByteWritten, refusedStores, allRefused, exchangedNumbers, withdrawnFirst, notCleared, refusedZeroes, refusedCloses, unissuedTaken, rowsLeft, oneFigure, rootAtOnce, oneRounding, roundedDown, countBefore, premiumRoundedDown, indexByLoss, positionMadeUp, stepEarly, zeroRefused, refusedMoves, closedAtRoot, oneAnswer, firstCoupon, netUnsigned, valueZeroes, withdrawnAnswered, valueZeroAlone, refusedTells, otherLength, zeroAlone, walkAbove, upsideDown, signLost, restCut, halfUpwards, paymentLost, flatForScale, ratioAnswered, stepShort, inPlace, refusedWrites, forwardAnswered}
+use Rattle.wrong.specs.Checks.{Value, skipping}
+
+-- Value takes entries over their ceilings, and answers by them.
+abbrev pub ceilingsPassed : Engine
+ceilingsPassed = skipping Value 12
 
 -- The power, of every list of events, and what a write clears: two parts of the whole promise (`Keeps`).
 abbrev pub Power : Engine → Type 0
@@ -15,7 +20,7 @@ abbrev pub Clearing : Engine → Type 0
 Clearing e = (g : List ℕ) (y : ℕ) → Clears e g y
 
 -- Demand 3: the fault shows in a list of calls from a blank register, a fresh walk and rows of any content.
--- The power: it shows where a withdrawn number is asked again. The clearing: in the byte that a write leaves.
+-- The power: it shows where a withdrawn number is asked again. The clearing: in the bytes that an issue or a withdraw leaves.
 -- The rules: it shows in a hedge ratio or a distribution, or at a register or a walk that no such list leaves.
 pub record NoneKeeps : Type 0 where
   pub always-live : Demand3 alwaysLive → ⊥
@@ -24,12 +29,20 @@ pub record NoneKeeps : Type 0 where
   pub issued-again-later : Power issuedAgain → ⊥
   pub byte-left-later : Power byteLeft → ⊥
   pub bits-set-later : Power bitsSet → ⊥
+  pub zero-alone-later : Power zeroAlone → ⊥
+  pub refused-tells-later : Power refusedTells → ⊥
+  pub ratio-answered-later : Power ratioAnswered → ⊥
+  pub forward-answered-later : Power forwardAnswered → ⊥
   pub bits-set : Clearing bitsSet → ⊥
+  pub other-byte-written : Clearing otherByteWritten → ⊥
+  pub refused-stores-byte : Clearing refusedStores → ⊥
+  pub refused-stores : Demand3 refusedStores → ⊥
   pub all-refused : Demand3 allRefused → ⊥
   pub exchanged-numbers : Demand3 exchangedNumbers → ⊥
   pub withdrawn-first : Demand3 withdrawnFirst → ⊥
   pub not-cleared : Demand3 notCleared → ⊥
   pub refused-zeroes : Demand3 refusedZeroes → ⊥
+  pub refused-closes : Demand3 refusedCloses → ⊥
   pub unissued-taken : Demand3 unissuedTaken → ⊥
   pub rows-left : Demand3 rowsLeft → ⊥
   pub one-figure : Demand3 oneFigure → ⊥
@@ -37,19 +50,23 @@ pub record NoneKeeps : Type 0 where
   pub one-rounding : Demand3 oneRounding → ⊥
   pub rounded-down : Demand3 roundedDown → ⊥
   pub count-before : Demand3 countBefore → ⊥
+  pub premium-rounded-down : Demand3 premiumRoundedDown → ⊥
   pub index-by-loss : Demand3 indexByLoss → ⊥
   pub position-made-up : Demand3 positionMadeUp → ⊥
   pub step-early : Demand3 stepEarly → ⊥
   pub zero-refused : Demand3 zeroRefused → ⊥
   pub refused-moves : Demand3 refusedMoves → ⊥
+  pub closed-at-root : Demand3 closedAtRoot → ⊥
   pub one-answer : Demand3 oneAnswer → ⊥
   pub first-coupon : Demand3 firstCoupon → ⊥
   pub net-unsigned : Demand3 netUnsigned → ⊥
   pub value-zeroes : Demand3 valueZeroes → ⊥
   pub withdrawn-answered : Demand3 withdrawnAnswered → ⊥
+  pub refused-tells : Demand3 refusedTells → ⊥
   pub ceilings-passed : Demand3 ceilingsPassed → ⊥
   pub other-length : Rules otherLength → ⊥
   pub zero-alone : Rules zeroAlone → ⊥
+  pub value-zero-alone : Rules valueZeroAlone → ⊥
   pub walk-above : Rules walkAbove → ⊥
   pub upside-down : Rules upsideDown → ⊥
   pub sign-lost : Rules signLost → ⊥

@@ -1,6 +1,6 @@
 -- Wrong engines, each ours but for one call. proofs/Refuted.antt shows that the promise admits none of them.
 use Prim.Native.Nat.{ℕ, zero, suc, _+_, _-_, _*_, _/_, min}
-use mathlib.Core.Bool.{Bool, true, false, cond, _&&_}
+use mathlib.Core.Bool.{Bool, true, false, cond}
 use mathlib.Core.List.{List, [], _∷_, _++_}
 use lib.ListN.{getD, set, take, replicate}
 use lib.Dec.{leb, eqb}
@@ -10,7 +10,7 @@ use Rattle.cash.specs.Units.{B, half}
 use Rattle.cash.specs.Losses.{premiumPayment}
 use Rattle.cash.specs.Hedges.{netValue, jumpOf, negative, unlike, signed, millionths, ratioOf}
 use Rattle.register.specs.Register.{statusIn}
-use Rattle.tree.specs.Paths.{survive, default}
+use Rattle.tree.specs.Paths.{survive, default, after}
 use Rattle.tree.specs.Backward.{Leg}
 use Rattle.tree.specs.Legs.{premiumLeg}
 use Rattle.tree.specs.Sheet.{Sheet, hazardOf, discountOf, accrualOf, poolLossOf, outstandingOf, defaultOf, premiumOf}
@@ -18,7 +18,7 @@ use Rattle.rows.specs.Tables.{tab}
 use Rattle.rows.specs.Rows.{nodeIn, rowOf, rolledBack, spreadRow}
 use Rattle.sheet.specs.Brought.{Brought}
 use Rattle.walk.specs.declared.Walk.{Walk}
-use Rattle.walk.specs.Answers.{Rows, Said, accepted}
+use Rattle.walk.specs.Answers.{Rows, Said, accepted, fresh}
 use Rattle.walk.specs.Table.{nodeOf, jump}
 use Rattle.walk.specs.Calls.{isWithdrawn, isUnissued, zeros, rolls}
 use Rattle.walk.specs.Does.{Entered, Moved, Spread, says}
@@ -27,40 +27,40 @@ use Rattle.walk.specs.Ours.{ours}
 
 -- ---- ours, with one call replaced
 
-abbrev issueBy : (List ℕ → ℕ → Entered) → Engine
+abbrev pub issueBy : (List ℕ → ℕ → Entered) → Engine
 issueBy f =
     record { issue = f; withdraw = ours .withdraw; opening = ours .opening; back = ours .back; value = ours .value; ratio = ours .ratio; forward = ours .forward }
 
-abbrev withdrawBy : (List ℕ → ℕ → Entered) → Engine
+abbrev pub withdrawBy : (List ℕ → ℕ → Entered) → Engine
 withdrawBy f =
     record { issue = ours .issue; withdraw = f; opening = ours .opening; back = ours .back; value = ours .value; ratio = ours .ratio; forward = ours .forward }
 
-abbrev openBy : (Brought → List ℕ → Walk → Rows → Moved) → Engine
+abbrev pub openBy : (Brought → List ℕ → Walk → Rows → Moved) → Engine
 openBy f =
     record { issue = ours .issue; withdraw = ours .withdraw; opening = f; back = ours .back; value = ours .value; ratio = ours .ratio; forward = ours .forward }
 
-abbrev backBy : (Brought → List ℕ → Walk → Rows → ℕ → Moved) → Engine
+abbrev pub backBy : (Brought → List ℕ → Walk → Rows → ℕ → Moved) → Engine
 backBy f =
     record { issue = ours .issue; withdraw = ours .withdraw; opening = ours .opening; back = f; value = ours .value; ratio = ours .ratio; forward = ours .forward }
 
-abbrev valueBy : (Brought → List ℕ → Walk → Rows → ℕ → ℕ → Moved) → Engine
+abbrev pub valueBy : (Brought → List ℕ → Walk → Rows → ℕ → ℕ → Moved) → Engine
 valueBy f =
     record { issue = ours .issue; withdraw = ours .withdraw; opening = ours .opening; back = ours .back; value = f; ratio = ours .ratio; forward = ours .forward }
 
-abbrev ratioBy : (Brought → List ℕ → Walk → Rows → ℕ → ℕ → Moved) → Engine
+abbrev pub ratioBy : (Brought → List ℕ → Walk → Rows → ℕ → ℕ → Moved) → Engine
 ratioBy f =
     record { issue = ours .issue; withdraw = ours .withdraw; opening = ours .opening; back = ours .back; value = ours .value; ratio = f; forward = ours .forward }
 
-abbrev forwardBy : (Brought → List ℕ → List ℕ → ℕ → Spread) → Engine
+abbrev pub forwardBy : (Brought → List ℕ → List ℕ → ℕ → Spread) → Engine
 forwardBy f =
     record { issue = ours .issue; withdraw = ours .withdraw; opening = ours .opening; back = ours .back; value = ours .value; ratio = ours .ratio; forward = f }
 
 -- ---- what a call gives back, changed
 
-abbrev refusal : ℕ → Said
+abbrev pub refusal : ℕ → Said
 refusal n = record { number = n; values = [] }
 
-abbrev withSaid : Moved → Said → Moved
+abbrev pub withSaid : Moved → Said → Moved
 withSaid o s = record { said = s; walk = o .walk; rows = o .rows }
 
 abbrev withRows : Moved → Rows → Moved
@@ -72,12 +72,20 @@ movedTo o i =
     record { said = says (pos i ∷ []); walk = record { «open» = o .walk .«open»; number = o .walk .number; position = i }; rows = o .rows }
 
 -- The first where the call was accepted, and the second where it was refused.
-abbrev byAnswer : Moved → Moved → Moved → Moved
+abbrev pub byAnswer : Moved → Moved → Moved → Moved
 byAnswer o a b = cond (accepted (o .said)) a b
 
 -- Two refusal numbers taken for one another.
 abbrev exchanged : ℕ → ℕ → Said → Said
 exchanged m n s = cond (eqb (s .number) m) (refusal n) (cond (eqb (s .number) n) (refusal m) s)
+
+-- The register with the sheet's number live again, where it is withdrawn.
+abbrev revived : Brought → List ℕ → List ℕ
+revived x g = cond (isWithdrawn (statusIn g (x .number))) (set g (x .number) 0xA5) g
+
+-- So where it is withdrawn by another byte than 00.
+abbrev revivedBut : Brought → List ℕ → List ℕ
+revivedBut x g = cond (eqb (getD g (x .number) 0) 0) g (revived x g)
 
 -- ---- issue and withdraw
 
@@ -95,6 +103,21 @@ byteLeft = withdrawBy (λ g y. record { said = ours .withdraw g y .said; registe
 -- Withdraw sets bits: the byte it leaves says unissued again.
 abbrev pub bitsSet : Engine
 bitsSet = withdrawBy (λ g y. record { said = ours .withdraw g y .said; register = cond (accepted (ours .withdraw g y .said)) (set g y 0xFF) g })
+
+-- An accepted issue writes a byte besides: that of the number 0, where it says withdrawn by 00.
+abbrev pub otherByteWritten : Engine
+otherByteWritten =
+    issueBy (λ g y.
+    record {
+      said = ours .issue g y .said;
+      register = cond (accepted (ours .issue g y .said)) (set (set g y 0xA5) 0 (cond (eqb (getD g 0 0) 0) 0xF5 (getD (set g y 0xA5) 0 0))) g;
+    })
+
+-- A refused withdraw of a number never issued writes 00.
+abbrev pub refusedStores : Engine
+refusedStores =
+    withdrawBy (λ g y.
+    record { said = ours .withdraw g y .said; register = cond (isUnissued (statusIn g y)) (set g y 0x00) (ours .withdraw g y .register) })
 
 -- ---- open
 
@@ -118,6 +141,12 @@ notCleared = openBy (λ x g w l. withRows (ours .opening x g w l) l)
 abbrev pub refusedZeroes : Engine
 refusedZeroes = openBy (λ x g w l. byAnswer (ours .opening x g w l) (ours .opening x g w l) (withRows (ours .opening x g w l) (zeros x)))
 
+-- A refused open closes the walk.
+abbrev pub refusedCloses : Engine
+refusedCloses =
+    openBy (λ x g w l.
+    byAnswer (ours .opening x g w l) (ours .opening x g w l) (record { said = ours .opening x g w l .said; walk = fresh; rows = l }))
+
 -- A number that was never issued is opened.
 abbrev pub unissuedTaken : Engine
 unissuedTaken = openBy (λ x g w l. ours .opening x (cond (isUnissued (statusIn g (x .number))) (set g (x .number) 0xA5) g) w l)
@@ -128,9 +157,7 @@ otherLength = openBy (λ x g w l. ours .opening x (take 256 (g ++ replicate 256 
 
 -- Only 00 is read as withdrawn.
 abbrev pub zeroAlone : Engine
-zeroAlone =
-    openBy (λ x g w l.
-    ours .opening x (cond (isWithdrawn (statusIn g (x .number)) && leb 1 (getD g (x .number) 0)) (set g (x .number) 0xA5) g) w l)
+zeroAlone = openBy (λ x g w l. ours .opening x (revivedBut x g) w l)
 
 -- ---- back
 
@@ -139,7 +166,7 @@ abbrev pub rowsLeft : Engine
 rowsLeft = backBy (λ x g w l c. withRows (ours .back x g w l c) l)
 
 -- An accepted back leaves the rows that f gives, from what ours leaves.
-abbrev backRows : (Brought → Walk → Rows → ℕ → Rows → Rows) → Engine
+abbrev pub backRows : (Brought → Walk → Rows → ℕ → Rows → Rows) → Engine
 backRows f =
     backBy (λ x g w l c.
     byAnswer (ours .back x g w l c) (withRows (ours .back x g w l c) (f x w l c (ours .back x g w l c .rows))) (ours .back x g w l c))
@@ -169,7 +196,7 @@ unfoldable pub rolledBy : (ℕ → ℕ → ℕ → ℕ → ℕ) → Sheet → (�
 rolledBy node x leg i zero row = row
 rolledBy node x leg i (suc c) row = steppedBy node x leg (i - suc c) (rolledBy node x leg i c row)
 
-abbrev backNodes : (ℕ → ℕ → ℕ → ℕ → ℕ) → Engine
+abbrev pub backNodes : (ℕ → ℕ → ℕ → ℕ → ℕ) → Engine
 backNodes node =
     backRows (λ x w l c m.
     record {
@@ -199,6 +226,16 @@ countBefore =
     record {
       exactly = premiumOf x j .exactly;
       rounded = λ s k m. premiumPayment (accrualOf x s) (outstandingOf x j k);
+      halves = premiumOf x j .halves;
+    })
+
+-- A premium payment rounded down.
+abbrev pub premiumRoundedDown : Engine
+premiumRoundedDown =
+    backPremiums (λ x j.
+    record {
+      exactly = premiumOf x j .exactly;
+      rounded = λ s k m. accrualOf x s * outstandingOf x j (after k m) / B;
       halves = premiumOf x j .halves;
     })
 
@@ -232,6 +269,15 @@ refusedMoves =
     byAnswer (ours .back x g w l c) (ours .back x g w l c)
     (withSaid (movedTo (ours .back x g w l c) (w .position - c)) (ours .back x g w l c .said)))
 
+-- A back to the root closes the walk.
+abbrev pub closedAtRoot : Engine
+closedAtRoot =
+    backBy (λ x g w l c.
+    byAnswer (ours .back x g w l c)
+    (cond (eqb c (w .position))
+    (record { said = ours .back x g w l c .said; walk = fresh; rows = ours .back x g w l c .rows }) (ours .back x g w l c))
+    (ours .back x g w l c))
+
 -- ---- value
 
 -- One figure for all nodes.
@@ -240,7 +286,7 @@ oneAnswer =
     valueBy (λ x g w l j k. byAnswer (ours .value x g w l j k) (ours .value x g w l 0 0) (ours .value x g w l j k))
 
 -- D and A of a node, and W by another rule.
-abbrev valueNets : (Brought → ℕ → ℕ → ℕ → ℤ) → Engine
+abbrev pub valueNets : (Brought → ℕ → ℕ → ℕ → ℤ) → Engine
 valueNets net =
     valueBy (λ x g w l j k.
     byAnswer (ours .value x g w l j k)
@@ -263,13 +309,22 @@ valueZeroes = valueBy (λ x g w l j k. byAnswer (ours .value x g w l j k) (withR
 
 -- A withdrawn number is still answered.
 abbrev pub withdrawnAnswered : Engine
-withdrawnAnswered = valueBy (λ x g w l j k. ours .value x (cond (isWithdrawn (statusIn g (x .number))) (set g (x .number) 0xA5) g) w l j k)
+withdrawnAnswered = valueBy (λ x g w l j k. ours .value x (revived x g) w l j k)
 
--- Entries over their ceilings are taken.
-abbrev pub ceilingsPassed : Engine
-ceilingsPassed =
+-- Only 00 is read as withdrawn.
+abbrev pub valueZeroAlone : Engine
+valueZeroAlone = valueBy (λ x g w l j k. ours .value x (revivedBut x g) w l j k)
+
+-- A refused value tells D and A beside its number.
+abbrev pub refusedTells : Engine
+refusedTells =
     valueBy (λ x g w l j k.
-    cond (eqb (ours .value x g w l j k .said .number) 12) (withSaid (ours .value x g w l j k) (says [])) (ours .value x g w l j k))
+    byAnswer (ours .value x g w l j k) (ours .value x g w l j k)
+    (withSaid (ours .value x g w l j k)
+    (record {
+      number = ours .value x g w l j k .said .number;
+      values = pos (nodeIn (x .sheet) (l .defaults) j k) ∷ pos (nodeIn (x .sheet) (l .premiums) j k) ∷ [];
+    })))
 
 -- A walk that stands above the last step is taken for one that stands there.
 abbrev pub walkAbove : Engine
@@ -284,7 +339,7 @@ walkAbove =
 -- ---- hedge ratio
 
 -- An accepted ratio by another rule.
-abbrev ratioOfRows : (Brought → Rows → ℕ → ℕ → ℤ) → Engine
+abbrev pub ratioOfRows : (Brought → Rows → ℕ → ℕ → ℤ) → Engine
 ratioOfRows f =
     ratioBy (λ x g w l j k.
     byAnswer (ours .ratio x g w l j k) (withSaid (ours .ratio x g w l j k) (says (f x l j k ∷ []))) (ours .ratio x g w l j k))
@@ -328,6 +383,10 @@ paymentLost = ratioOfRows (λ x l j k. ratioOf (unpaidJump x l j k) (unpaidJump 
 abbrev pub flatForScale : Engine
 flatForScale = ratioBy (λ x g w l j k. withSaid (ours .ratio x g w l j k) (exchanged 15 16 (ours .ratio x g w l j k .said)))
 
+-- A withdrawn number is still answered.
+abbrev pub ratioAnswered : Engine
+ratioAnswered = ratioBy (λ x g w l j k. ours .ratio x (revived x g) w l j k)
+
 -- ---- forward
 
 abbrev pub stepShort : Engine
@@ -351,3 +410,7 @@ inPlace =
 -- A refused forward writes the row.
 abbrev pub refusedWrites : Engine
 refusedWrites = forwardBy (λ x g q i. record { said = ours .forward x g q i .said; row = spreadRow (x .sheet) i })
+
+-- A withdrawn number is still answered.
+abbrev pub forwardAnswered : Engine
+forwardAnswered = forwardBy (λ x g q i. ours .forward x (revived x g) q i)

@@ -1,0 +1,261 @@
+-- No engine of specs/Figures.antt keeps the promise, and the bounds need their factor: by computation on small sheets. Assumes nothing.
+use Prim.Native.Nat.{ℕ, _-_}
+use mathlib.Core.Path.{_≡_, refl, ap}
+use mathlib.Core.Bool.{true, false}
+use mathlib.Core.List.{[], _∷_}
+use native.Mathlib.Omega.{arith}
+use lib.ListN.{replicate}
+use lib.Dec.{le→leb, lit≤}
+use Rattle.cash.specs.Sums.{sumTo}
+use Rattle.tree.specs.Forward.{lands, probability, apart, errors}
+use Rattle.tree.specs.Sheet.{spanning}
+use Rattle.tree.specs.Trials.{drifting}
+use Rattle.sheet.specs.Brought.{Brought, brought}
+use Rattle.sheet.proofs.Limits.{limits}
+use Rattle.walk.specs.Answers.{Rows, accepted}
+use Rattle.walk.specs.Does.{Stepped}
+use Rattle.walk.specs.Engine.{Engine}
+use Rattle.walk.specs.Lists.{same, other, issue, opening, back, Book, Run, end, went, turn, answers}
+use Rattle.walk.specs.Promises.{Ruled}
+use Rattle.walk.specs.Promise.{Rules, Demand3, blankRun}
+use Rattle.wrong.specs.Examples.{bookOf, filled, deck, used, toRoot, parted, whole, elsewhere, live, walkAt}
+use Rattle.wrong.specs.Figures.{rowBy, spreadBy, recoveryIgnored, discountBefore, accrualBefore, premiumEveryStep, movesExchanged}
+use Rattle.wrong.specs.Figures.{hazardOfNext, pastLastCount, legsExchanged, defaultUnpaid, defaultInPremiums, premiumInDefaults, lowerIgnored}
+use Rattle.wrong.specs.Figures.{lossUncapped, lossRoundedUp, indexRoundedDown, premiumAfterRoll, premiumAfterChance, netFactorShort}
+use Rattle.wrong.specs.Figures.{netLegsExchanged, netReversed, defaultForPremium, lossReversed, defaultReversed, premiumReversed}
+use Rattle.wrong.specs.Figures.{premiumLeftOut, trancheCoupon, tenThousandths, halfToEven, movesDown, halfMovesDown, movesPastLast, movesLost}
+use Rattle.wrong.specs.Figures.{nothingMoves, fromLentRow, NoneFigures, Unchanged, unitsBook, FactorNeeded, NamesNeeded}
+use Rattle.wrong.proofs.Computing.{computed}
+use Rattle.wrong.proofs.Refuted.{figure, found, stepped, sheet}
+
+-- ---- back
+
+-- A sheet opened with rows of n entries.
+abbrev opens : Book → ℕ → Run
+opens k n = blankRun k used (issue 7 ∷ opening 7 (other (filled n 0)) ∷ [])
+
+-- Demand 3 has a back by 1 keep to the rule, entry by entry.
+by-one : {e : Engine} → Demand3 e → (k : Book) (n : ℕ) → accepted (answers e (opens k n) (back 7 same 1)) ≡ true →
+    Stepped (k .sheet 7 .sheet) (end e (opens k n) .walk .position - 1) (end e (opens k n) .rows)
+    (turn e (k .sheet) (end e (opens k n)) (back 7 same 1) .state .rows)
+unfolding blankRun Ruled turn went
+by-one d k n p = stepped _ _ _ _ (d k used _ .serves .ruled (back 7 same 1) .does p .rows)
+
+not-recoveryIgnored : Demand3 recoveryIgnored → ⊥
+unfolding computed rowBy
+not-recoveryIgnored d = omega (arith, by-one d deck 6 refl .default 1 0 (lit≤ tt) (lit≤ tt))
+
+not-discountBefore : Demand3 discountBefore → ⊥
+unfolding computed rowBy
+not-discountBefore d = omega (arith, by-one d deck 6 refl .default 0 0 (lit≤ tt) (lit≤ tt))
+
+not-accrualBefore : Demand3 accrualBefore → ⊥
+unfolding computed rowBy
+not-accrualBefore d = omega (arith, by-one d deck 6 refl .premium 0 0 (lit≤ tt) (lit≤ tt))
+
+-- The first step of the deck is no premium date.
+not-premiumEveryStep : Demand3 premiumEveryStep → ⊥
+unfolding computed rowBy
+not-premiumEveryStep d = le→leb _ _ (found d deck toRoot 2 refl refl refl .premium-near 0 0 (lit≤ tt) (lit≤ tt) .below)
+
+not-movesExchanged : Demand3 movesExchanged → ⊥
+unfolding computed
+not-movesExchanged d = omega (arith, by-one d deck 6 refl .default 0 0 (lit≤ tt) (lit≤ tt))
+
+not-hazardOfNext : Demand3 hazardOfNext → ⊥
+unfolding computed rowBy
+not-hazardOfNext d = omega (arith, by-one d deck 6 refl .default 0 0 (lit≤ tt) (lit≤ tt))
+
+not-pastLastCount : Demand3 pastLastCount → ⊥
+unfolding computed rowBy
+not-pastLastCount d = omega (arith, by-one d deck 6 refl .default 1 2 (lit≤ tt) (lit≤ tt))
+
+not-legsExchanged : Demand3 legsExchanged → ⊥
+unfolding computed rowBy
+not-legsExchanged d = omega (arith, by-one d deck 6 refl .default 0 0 (lit≤ tt) (lit≤ tt))
+
+not-defaultUnpaid : Demand3 defaultUnpaid → ⊥
+unfolding computed rowBy
+not-defaultUnpaid d = omega (arith, by-one d deck 6 refl .default 0 0 (lit≤ tt) (lit≤ tt))
+
+not-defaultInPremiums : Demand3 defaultInPremiums → ⊥
+unfolding computed rowBy
+not-defaultInPremiums d = omega (arith, by-one d deck 6 refl .premium 0 0 (lit≤ tt) (lit≤ tt))
+
+not-premiumInDefaults : Demand3 premiumInDefaults → ⊥
+unfolding computed rowBy
+not-premiumInDefaults d = omega (arith, by-one d deck 6 refl .default 0 0 (lit≤ tt) (lit≤ tt))
+
+not-lowerIgnored : Demand3 lowerIgnored → ⊥
+unfolding computed rowBy
+not-lowerIgnored d = omega (arith, by-one d parted 12 refl .default 1 0 (lit≤ tt) (lit≤ tt))
+
+not-lossUncapped : Demand3 lossUncapped → ⊥
+unfolding computed rowBy
+not-lossUncapped d = omega (arith, by-one d deck 6 refl .default 0 1 (lit≤ tt) (lit≤ tt))
+
+-- A unit, in the pool of three.
+not-lossRoundedUp : Demand3 lossRoundedUp → ⊥
+unfolding computed rowBy
+not-lossRoundedUp d = omega (arith, by-one d whole 8 refl .default 1 2 (lit≤ tt) (lit≤ tt))
+
+not-indexRoundedDown : Demand3 indexRoundedDown → ⊥
+unfolding computed rowBy
+not-indexRoundedDown d = omega (arith, by-one d whole 8 refl .premium 1 0 (lit≤ tt) (lit≤ tt))
+
+not-premiumAfterRoll : Demand3 premiumAfterRoll → ⊥
+unfolding computed rowBy
+not-premiumAfterRoll d = omega (arith, by-one d deck 6 refl .premium 0 0 (lit≤ tt) (lit≤ tt))
+
+-- A unit, in the second step, where a rounding more meets a row that is not zero.
+not-premiumAfterChance : Demand3 premiumAfterChance → ⊥
+unfolding computed rowBy
+not-premiumAfterChance d =
+    let l = issue 7 ∷ opening 7 (other (filled 8 0)) ∷ back 7 same 1 ∷ [] in
+    omega (arith, stepped _ _ _ _ (d whole used l .serves .ruled (back 7 same 1) .does refl .rows) .premium 1 0 (lit≤ tt) (lit≤ tt))
+
+-- ---- value
+
+not-netFactorShort : Demand3 netFactorShort → ⊥
+unfolding computed
+not-netFactorShort d = omega (arith, ap (figure 2) (found d deck toRoot 2 refl refl refl .shown 7 0 0 refl .said))
+
+not-netLegsExchanged : Demand3 netLegsExchanged → ⊥
+unfolding computed
+not-netLegsExchanged d = omega (arith, ap (figure 2) (found d deck toRoot 2 refl refl refl .shown 7 0 0 refl .said))
+
+not-netReversed : Demand3 netReversed → ⊥
+unfolding computed
+not-netReversed d = omega (arith, ap (figure 2) (found d deck toRoot 2 refl refl refl .shown 7 0 0 refl .said))
+
+not-defaultForPremium : Demand3 defaultForPremium → ⊥
+unfolding computed
+not-defaultForPremium d = omega (arith, ap (figure 1) (found d deck toRoot 2 refl refl refl .shown 7 0 0 refl .said))
+
+-- ---- hedge ratio
+
+-- Rows on which each change of a jump counts. The ratio there is 517241.
+abbrev lent : Rows
+lent = elsewhere 100_000_000 0 500_000_000 200_000_000
+
+not-lossReversed : Rules lossReversed → ⊥
+unfolding computed
+not-lossReversed r = omega (arith, ap (figure 0) (r .ratio sheet live (walkAt 0) lent 0 0 .does refl .said))
+
+not-defaultReversed : Rules defaultReversed → ⊥
+unfolding computed
+not-defaultReversed r = omega (arith, ap (figure 0) (r .ratio sheet live (walkAt 0) lent 0 0 .does refl .said))
+
+not-premiumReversed : Rules premiumReversed → ⊥
+unfolding computed
+not-premiumReversed r = omega (arith, ap (figure 0) (r .ratio sheet live (walkAt 0) lent 0 0 .does refl .said))
+
+not-premiumLeftOut : Rules premiumLeftOut → ⊥
+unfolding computed
+not-premiumLeftOut r = omega (arith, ap (figure 0) (r .ratio sheet live (walkAt 0) lent 0 0 .does refl .said))
+
+not-trancheCoupon : Rules trancheCoupon → ⊥
+unfolding computed
+not-trancheCoupon r = omega (arith, ap (figure 0) (r .ratio sheet live (walkAt 0) lent 0 0 .does refl .said))
+
+not-tenThousandths : Rules tenThousandths → ⊥
+unfolding computed
+not-tenThousandths r = omega (arith, ap (figure 0) (r .ratio sheet live (walkAt 0) lent 0 0 .does refl .said))
+
+-- Half a millionth.
+not-halfToEven : Rules halfToEven → ⊥
+unfolding computed
+not-halfToEven r = omega (arith, ap (figure 0) (r .ratio sheet live (walkAt 0) (elsewhere 299_999_999 298_000_000 0 0) 0 0 .does refl .said))
+
+-- ---- forward
+
+-- A chance of 50,000: in the second step 49,997.5 units move.
+abbrev halves : Brought
+halves =
+    brought (record { names = 1; steps = 2; tranches = 1; recovery = 0; number = 7 })
+    (0 ∷ 5 ∷ []) (50_000 ∷ []) (1 ∷ 1 ∷ []) (1 ∷ 1 ∷ []) (0 ∷ 0 ∷ [])
+
+not-movesDown : Rules movesDown → ⊥
+unfolding computed spreadBy
+not-movesDown r = omega (arith, r .forward halves live (replicate 2 0) 2 .does refl .row 1 (lit≤ tt))
+
+not-halfMovesDown : Rules halfMovesDown → ⊥
+unfolding computed spreadBy
+not-halfMovesDown r = omega (arith, r .forward halves live (replicate 2 0) 2 .does refl .row 1 (lit≤ tt))
+
+not-movesPastLast : Rules movesPastLast → ⊥
+unfolding computed spreadBy
+not-movesPastLast r = omega (arith, r .forward halves live (replicate 2 0) 2 .does refl .row 1 (lit≤ tt))
+
+not-movesLost : Rules movesLost → ⊥
+unfolding computed spreadBy sumTo
+not-movesLost r = omega (arith, r .forward sheet live (replicate 3 0) 1 .does refl .total)
+
+not-nothingMoves : Rules nothingMoves → ⊥
+unfolding computed sumTo lands probability apart
+not-nothingMoves r = le→leb _ _ (r .forward sheet live (replicate 3 0) 1 .does refl .near)
+
+not-fromLentRow : Rules fromLentRow → ⊥
+unfolding computed spreadBy sumTo
+not-fromLentRow r = omega (arith, r .forward sheet live (replicate 3 0) 1 .does refl .total)
+
+pub none-figures : NoneFigures
+none-figures =
+    record {
+      recovery-ignored = not-recoveryIgnored;
+      discount-before = not-discountBefore;
+      accrual-before = not-accrualBefore;
+      premium-every-step = not-premiumEveryStep;
+      moves-exchanged = not-movesExchanged;
+      hazard-of-next = not-hazardOfNext;
+      past-last-count = not-pastLastCount;
+      legs-exchanged = not-legsExchanged;
+      default-unpaid = not-defaultUnpaid;
+      default-in-premiums = not-defaultInPremiums;
+      premium-in-defaults = not-premiumInDefaults;
+      lower-ignored = not-lowerIgnored;
+      loss-uncapped = not-lossUncapped;
+      loss-rounded-up = not-lossRoundedUp;
+      index-rounded-down = not-indexRoundedDown;
+      premium-after-roll = not-premiumAfterRoll;
+      premium-after-chance = not-premiumAfterChance;
+      net-factor-short = not-netFactorShort;
+      net-legs-exchanged = not-netLegsExchanged;
+      net-reversed = not-netReversed;
+      default-for-premium = not-defaultForPremium;
+      loss-reversed = not-lossReversed;
+      default-reversed = not-defaultReversed;
+      premium-reversed = not-premiumReversed;
+      premium-left-out = not-premiumLeftOut;
+      tranche-coupon = not-trancheCoupon;
+      ten-thousandths = not-tenThousandths;
+      half-to-even = not-halfToEven;
+      moves-down = not-movesDown;
+      half-moves-down = not-halfMovesDown;
+      moves-past-last = not-movesPastLast;
+      moves-lost = not-movesLost;
+      nothing-moves = not-nothingMoves;
+      from-lent-row = not-fromLentRow;
+    }
+
+pub unchanged : Unchanged
+unfolding computed rowBy spreadBy
+unchanged = record { sheet = refl; chances = refl; legs = refl; losses = refl; nets = refl; jumps = refl; sizes = refl; moves = refl }
+
+-- ---- bounds
+
+pub factor-needed : FactorNeeded
+unfolding computed spanning sumTo
+factor-needed =
+    record {
+      within = limits (unitsBook .sheet 5) false .0 refl .0;
+      walked = record { opened = refl; walked = refl; own = refl };
+      spanned-walked = record { opened = refl; walked = refl; own = refl };
+      dates = refl;
+      defaults = λ n. le→leb _ _ (n .below);
+      premiums = λ n. le→leb _ _ (n .below);
+    }
+
+pub names-needed : NamesNeeded
+unfolding computed sumTo lands probability apart errors
+names-needed = record { within = limits (bookOf drifting (replicate 2 0) .sheet 7) false .0 refl .0; errors = λ n. le→leb _ _ n }

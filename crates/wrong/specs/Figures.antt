@@ -1,0 +1,391 @@
+-- Wrong engines whose figures differ from document 01's, each ours but for one figure, and bounds that need their factor.
+-- proofs/Figures.antt shows that the promise admits none of them.
+use Prim.Native.Nat.{ℕ, zero, suc, pred, _+_, _-_, _*_, _/_, _%_, _^_, _≤_, min}
+use mathlib.Core.Path.{_≡_}
+use mathlib.Core.Bool.{cond}
+use mathlib.Core.List.{List, [], _∷_}
+use lib.ListN.{getD, replicate}
+use lib.Dec.{ltb, eqb}
+use lib.IntN.{ℤ, pos, natAbs, _+ℤ_, _-ℤ_, _*ℤ_}
+use Rattle.cash.specs.declared.Node.{Node}
+use Rattle.cash.specs.Units.{B, half}
+use Rattle.cash.specs.Near.{Near}
+use Rattle.cash.specs.Sums.{sumTo}
+use Rattle.cash.specs.Losses.{trancheLoss, indexOutstanding}
+use Rattle.cash.specs.Hedges.{netValue, changeOf, jumpOf, negative, unlike, signed, millionths, ratioOf}
+use Rattle.tree.specs.Paths.{survive, default}
+use Rattle.tree.specs.Backward.{rollNode, Leg}
+use Rattle.tree.specs.Legs.{defaultLeg, premiumLeg}
+use Rattle.tree.specs.Sheet.{Sheet, hazardOf, discountOf, accrualOf, poolLossOf, lossOf, widthOf, outstandingOf, treeOf, defaultOf}
+use Rattle.tree.specs.Sheet.{premiumOf, dates, spanning}
+use Rattle.tree.specs.Forward.{same, moved, fromBelow, pushed, errors}
+use Rattle.tree.specs.Trials.{units, drifting}
+use Rattle.rows.specs.Tables.{tab}
+use Rattle.rows.specs.Rows.{nodeIn, rowOf, rolled}
+use Rattle.sheet.specs.Brought.{Brought}
+use Rattle.sheet.specs.Limits.{Limits}
+use Rattle.walk.specs.Answers.{Rows, accepted}
+use Rattle.walk.specs.Table.{nodeOf, jump}
+use Rattle.walk.specs.Does.{says}
+use Rattle.walk.specs.Engine.{Engine}
+use Rattle.walk.specs.Ours.{ours}
+use Rattle.walk.specs.Lists.{same as sameRows, other, issue, opening, back, Book, Run, end}
+use Rattle.walk.specs.Promises.{Walked, heldD, heldA}
+use Rattle.walk.specs.Promise.{Rules, Demand3, blankRun}
+use Rattle.wrong.specs.Substitutes.{withSaid, byAnswer, valueBy, forwardBy, backRows, backNodes, valueNets, ratioOfRows}
+use Rattle.wrong.specs.Examples.{bookOf, filled, used, deck, root, ratioOn, whole, wholeRun}
+
+-- ---- back: both rows by other steps
+
+-- A row c steps back from step i, each step by a rule of its own.
+unfoldable pub rowBy : (ℕ → List ℕ → List ℕ) → ℕ → ℕ → List ℕ → List ℕ
+rowBy step i zero row = row
+rowBy step i (suc c) row = step (i - suc c) (rowBy step i c row)
+
+-- A step back of a sheet's row, from step i + 1 to step i.
+abbrev Step : Type 0
+Step = Sheet → ℕ → List ℕ → List ℕ
+
+abbrev backSteps : Step → Step → Engine
+backSteps d a =
+    backRows (λ x w l c m.
+    record {
+      defaults = rowBy (d (x .sheet)) (w .position) c (l .defaults);
+      premiums = rowBy (a (x .sheet)) (w .position) c (l .premiums);
+    })
+
+-- ---- back: the sheet, the chances and the moves
+
+-- By the rule, on another sheet.
+abbrev backOn : (Sheet → Sheet) → Engine
+backOn f = backSteps (λ x. rolled (f x) (defaultOf (f x))) (λ x. rolled (f x) (premiumOf (f x)))
+
+abbrev sheetWith : Sheet → ℕ → List ℕ → List ℕ → Sheet
+sheetWith x recovery discounts accruals =
+    record {
+      names = x .names;
+      steps = x .steps;
+      tranches = x .tranches;
+      recovery = recovery;
+      attachments = x .attachments;
+      hazards = x .hazards;
+      discounts = discounts;
+      accruals = accruals;
+    }
+
+-- Losses as if nothing were recovered.
+abbrev pub recoveryIgnored : Engine
+recoveryIgnored = backOn (λ x. sheetWith x 0 (x .discounts) (x .accruals))
+
+-- v(i) and a(i) for v(i + 1) and a(i + 1).
+abbrev pub discountBefore : Engine
+discountBefore = backOn (λ x. sheetWith x (x .recovery) (B ∷ x .discounts) (x .accruals))
+
+abbrev pub accrualBefore : Engine
+accrualBefore = backOn (λ x. sheetWith x (x .recovery) (x .discounts) (0 ∷ x .accruals))
+
+-- The last accrual at every step, also where none falls due.
+abbrev pub premiumEveryStep : Engine
+premiumEveryStep = backOn (λ x. sheetWith x (x .recovery) (x .discounts) (replicate (x .steps) (accrualOf x (x .steps))))
+
+-- Survival for a default and a default for survival.
+abbrev pub movesExchanged : Engine
+movesExchanged = backNodes (λ hazard discount defaulted survived. rollNode hazard discount survived defaulted)
+
+-- By other chances of a default from a count.
+abbrev chanced : (Sheet → ℕ → ℕ) → (Sheet → ℕ → Leg) → Step
+chanced hazard leg x i row =
+    rowOf x (λ j k.
+    rollNode (hazard x k) (discountOf x (suc i))
+    (nodeIn x row j (suc k) + leg x j .rounded (suc i) k default)
+    (nodeIn x row j k + leg x j .rounded (suc i) k survive))
+
+abbrev backChances : (Sheet → ℕ → ℕ) → Engine
+backChances hazard = backSteps (chanced hazard defaultOf) (chanced hazard premiumOf)
+
+-- p(k + 1) for p(k).
+abbrev pub hazardOfNext : Engine
+hazardOfNext = backChances (λ x k. hazardOf x 0 (suc k))
+
+-- A default from the last count, with the chance of the one before it.
+abbrev pub pastLastCount : Engine
+pastLastCount = backChances (λ x k. getD (x .hazards) (min k (pred (x .names))) 0)
+
+-- ---- back: the cash
+
+-- By other legs.
+abbrev backLegs : (Sheet → ℕ → Leg) → (Sheet → ℕ → Leg) → Engine
+backLegs d a = backSteps (λ x. rolled x (d x)) (λ x. rolled x (a x))
+
+-- The premium leg in the row of the default legs, and the other way round.
+abbrev pub legsExchanged : Engine
+legsExchanged = backLegs premiumOf defaultOf
+
+abbrev pub defaultUnpaid : Engine
+defaultUnpaid = backLegs (λ x j. defaultLeg (λ k. 0)) premiumOf
+
+-- A leg with the rounded cash of another besides.
+abbrev besides : Leg → Leg → Leg
+besides g h =
+    record { exactly = g .exactly; rounded = λ s k m. g .rounded s k m + h .rounded s k m; halves = g .halves }
+
+abbrev pub defaultInPremiums : Engine
+defaultInPremiums = backLegs defaultOf (λ x j. besides (premiumOf x j) (defaultOf x j))
+
+abbrev pub premiumInDefaults : Engine
+premiumInDefaults = backLegs (λ x j. besides (defaultOf x j) (premiumOf x j)) premiumOf
+
+-- M(k) by another rule, and O(k) of a tranche from it.
+abbrev backLosses : (Sheet → ℕ → ℕ → ℕ) → Engine
+backLosses M =
+    backLegs (λ x j. defaultLeg (M x j))
+    (λ x j. premiumLeg (accrualOf x) (λ k. cond (ltb j (x .tranches)) (widthOf x j - M x j k) (indexOutstanding (x .names) k)))
+
+-- A tranche's loss measured from 0.
+abbrev pub lowerIgnored : Engine
+lowerIgnored = backLosses (λ x j k. cond (ltb j (x .tranches)) (trancheLoss 0 (widthOf x j) (poolLossOf x k)) (poolLossOf x k))
+
+-- A tranche's loss not capped by its width.
+abbrev pub lossUncapped : Engine
+lossUncapped = backLosses (λ x j k. cond (ltb j (x .tranches)) (poolLossOf x k - getD (x .attachments) j 0) (poolLossOf x k))
+
+-- L(k) rounded up.
+abbrev lossUp : Sheet → ℕ → ℕ
+lossUp x k = (k * (B - x .recovery) + pred (x .names)) / x .names
+
+abbrev pub lossRoundedUp : Engine
+lossRoundedUp =
+    backLosses (λ x j k.
+    cond (ltb j (x .tranches)) (trancheLoss (getD (x .attachments) j 0) (getD (x .attachments) (suc j) 0) (lossUp x k)) (lossUp x k))
+
+-- O(k) of the index rounded down.
+abbrev pub indexRoundedDown : Engine
+indexRoundedDown =
+    backLegs defaultOf (λ x j.
+    premiumLeg (accrualOf x) (λ k. cond (ltb j (x .tranches)) (outstandingOf x j k) ((x .names - k) * B / x .names)))
+
+-- The chance of a step on two figures, without its discount.
+abbrev weighed : Sheet → ℕ → ℕ → ℕ → ℕ → ℕ
+weighed x i k defaulted survived = half (hazardOf x (suc i) k * defaulted + (B - hazardOf x (suc i) k) * survived)
+
+-- The premium of a date on the count after the step, added late:
+-- by a rule of the discount, what the chance left of the row, and what it left of the premium.
+abbrev late : (ℕ → ℕ → ℕ → ℕ) → Step
+late f x i row =
+    rowOf x (λ j k.
+    f (discountOf x (suc i)) (weighed x i k (nodeIn x row j (suc k)) (nodeIn x row j k))
+    (weighed x i k (premiumOf x j .rounded (suc i) k default) (premiumOf x j .rounded (suc i) k survive)))
+
+abbrev backLate : (ℕ → ℕ → ℕ → ℕ) → Engine
+backLate f = backSteps (λ x. rolled x (defaultOf x)) (late f)
+
+-- After chance and discount: the premium is not discounted.
+abbrev pub premiumAfterRoll : Engine
+premiumAfterRoll = backLate (λ discount figure premium. half (discount * figure) + premium)
+
+-- After the chance and before the discount: a rounding of its own.
+abbrev pub premiumAfterChance : Engine
+premiumAfterChance = backLate (λ discount figure premium. half (discount * (figure + premium)))
+
+-- ---- value
+
+-- A tenth of W's factor.
+abbrev pub netFactorShort : Engine
+netFactorShort = valueNets (λ x j d a. pos (1_000_000 * d) -ℤ pos (getD (x .coupons) j 0 * a))
+
+-- W with D and A exchanged, and W with its sign turned.
+abbrev pub netLegsExchanged : Engine
+netLegsExchanged = valueNets (λ x j d a. netValue a (getD (x .coupons) j 0) d)
+
+abbrev pub netReversed : Engine
+netReversed = valueNets (λ x j d a. pos (getD (x .coupons) j 0 * a) -ℤ pos (10_000_000 * d))
+
+-- D for A, beside the right W.
+abbrev pub defaultForPremium : Engine
+defaultForPremium =
+    valueBy (λ x g w l j k.
+    byAnswer (ours .value x g w l j k)
+    (withSaid (ours .value x g w l j k)
+    (says (pos (nodeIn (x .sheet) (l .defaults) j k) ∷ pos (nodeIn (x .sheet) (l .defaults) j k)
+    ∷ netValue (nodeIn (x .sheet) (l .defaults) j k) (getD (x .coupons) j 0) (nodeIn (x .sheet) (l .premiums) j k) ∷ [])))
+    (ours .value x g w l j k))
+
+-- ---- hedge ratio
+
+-- Jumps by another rule of the coupon and the nodes before and after the default.
+abbrev jumpBy : (ℕ → Node → Node → ℤ) → Brought → Rows → ℕ → ℕ → ℤ
+jumpBy rule x l j k = rule (getD (x .coupons) j 0) (nodeOf (x .sheet) l j k) (nodeOf (x .sheet) l j (suc k))
+
+abbrev ratioOfJumps : (ℕ → Node → Node → ℤ) → Engine
+ratioOfJumps rule = ratioOfRows (λ x l j k. ratioOf (jumpBy rule x l j k) (jumpBy rule x l (x .sheet .tranches) k))
+
+-- J of the three changes.
+abbrev changed : ℕ → ℤ → ℤ → ℤ → ℤ
+changed coupon loss d a = pos 10_000_000 *ℤ (loss +ℤ d) -ℤ pos coupon *ℤ a
+
+abbrev pub lossReversed : Engine
+lossReversed =
+    ratioOfJumps (λ c m n. changed c (changeOf (n .loss) (m .loss)) (changeOf (m .default) (n .default)) (changeOf (m .premium) (n .premium)))
+
+abbrev pub defaultReversed : Engine
+defaultReversed =
+    ratioOfJumps (λ c m n. changed c (changeOf (m .loss) (n .loss)) (changeOf (n .default) (m .default)) (changeOf (m .premium) (n .premium)))
+
+abbrev pub premiumReversed : Engine
+premiumReversed =
+    ratioOfJumps (λ c m n. changed c (changeOf (m .loss) (n .loss)) (changeOf (m .default) (n .default)) (changeOf (n .premium) (m .premium)))
+
+abbrev pub premiumLeftOut : Engine
+premiumLeftOut = ratioOfJumps (λ c m n. jumpOf 0 m n)
+
+-- The index's jump with the tranche's coupon.
+abbrev pub trancheCoupon : Engine
+trancheCoupon =
+    ratioOfRows (λ x l j k.
+    ratioOf (jump x l j k)
+    (jumpOf (getD (x .coupons) j 0) (nodeOf (x .sheet) l (x .sheet .tranches) k) (nodeOf (x .sheet) l (x .sheet .tranches) (suc k))))
+
+-- The size of a ratio by another rounding.
+abbrev ratioOfSizes : (ℕ → ℕ → ℕ) → Engine
+ratioOfSizes size =
+    ratioOfRows (λ x l j k.
+    signed (unlike (negative (jump x l j k)) (negative (jump x l (x .sheet .tranches) k)))
+    (size (natAbs (jump x l j k)) (natAbs (jump x l (x .sheet .tranches) k))))
+
+abbrev pub tenThousandths : Engine
+tenThousandths = ratioOfSizes (λ s d. (2 * (s * 10_000) + d) / (2 * d))
+
+-- A half rounded to the even neighbour: q is the ratio rounded down.
+abbrev toEven : ℕ → ℕ → ℕ → ℕ
+toEven s d q = cond (eqb (2 * (s * 1_000_000)) (2 * (q * d) + d)) (q + q % 2) (millionths s d)
+
+abbrev pub halfToEven : Engine
+halfToEven = ratioOfSizes (λ s d. toEven s d (s * 1_000_000 / d))
+
+-- ---- forward
+
+-- An accepted forward fills the row by a rule of the sheet, the lent row and the step.
+abbrev forwardRow : (Sheet → List ℕ → ℕ → ℕ → ℕ) → Engine
+forwardRow f =
+    forwardBy (λ x g q i.
+    cond (accepted (ours .forward x g q i .said))
+    (record { said = says []; row = tab (x .sheet .names + 1) (f (x .sheet) q i) }) (ours .forward x g q i))
+
+-- Q(k) after some steps by a rule, from a row.
+unfoldable pub spreadBy : (ℕ → (ℕ → ℕ) → ℕ → ℕ) → (ℕ → ℕ) → ℕ → ℕ → ℕ
+spreadBy step q zero k = q k
+spreadBy step q (suc i) k = step (suc i) (spreadBy step q i) k
+
+abbrev first : ℕ → ℕ
+first k = B * same 0 k
+
+-- Moves by another rounding.
+abbrev moves : (ℕ → ℕ) → Sheet → ℕ → (ℕ → ℕ) → ℕ → ℕ
+moves round x s q k = q k - round (q k * hazardOf x s k) + fromBelow (λ c. round (q c * hazardOf x s c)) k
+
+abbrev pub movesDown : Engine
+movesDown = forwardRow (λ x q. spreadBy (moves (λ y. y / B) x) first)
+
+-- Only a half rounded down.
+abbrev pub halfMovesDown : Engine
+halfMovesDown = forwardRow (λ x q. spreadBy (moves (λ y. (y + 499_999_999) / B) x) first)
+
+-- The last count loses what the chance of the one before it would move from it.
+abbrev pub movesPastLast : Engine
+movesPastLast =
+    forwardRow (λ x q. spreadBy (λ s p k. pushed (treeOf x) s p k - cond (eqb k (x .names)) (half (p k * hazardOf x s (pred k))) 0) first)
+
+-- What moves is lost.
+abbrev pub movesLost : Engine
+movesLost = forwardRow (λ x q. spreadBy (λ s p k. p k - moved (treeOf x) s p k) first)
+
+-- Nothing moves: all of B stays at the count 0.
+abbrev pub nothingMoves : Engine
+nothingMoves = forwardRow (λ x q i. first)
+
+-- From the lent row.
+abbrev pub fromLentRow : Engine
+fromLentRow = forwardRow (λ x q. spreadBy (pushed (treeOf x)) (λ k. getD q k 0))
+
+-- ---- none of them
+
+-- Demand 3: the fault shows in a list of calls. The rules: it shows in a hedge ratio or a distribution.
+pub record NoneFigures : Type 0 where
+  pub recovery-ignored : Demand3 recoveryIgnored → ⊥
+  pub discount-before : Demand3 discountBefore → ⊥
+  pub accrual-before : Demand3 accrualBefore → ⊥
+  pub premium-every-step : Demand3 premiumEveryStep → ⊥
+  pub moves-exchanged : Demand3 movesExchanged → ⊥
+  pub hazard-of-next : Demand3 hazardOfNext → ⊥
+  pub past-last-count : Demand3 pastLastCount → ⊥
+  pub legs-exchanged : Demand3 legsExchanged → ⊥
+  pub default-unpaid : Demand3 defaultUnpaid → ⊥
+  pub default-in-premiums : Demand3 defaultInPremiums → ⊥
+  pub premium-in-defaults : Demand3 premiumInDefaults → ⊥
+  pub lower-ignored : Demand3 lowerIgnored → ⊥
+  pub loss-uncapped : Demand3 lossUncapped → ⊥
+  pub loss-rounded-up : Demand3 lossRoundedUp → ⊥
+  pub index-rounded-down : Demand3 indexRoundedDown → ⊥
+  pub premium-after-roll : Demand3 premiumAfterRoll → ⊥
+  pub premium-after-chance : Demand3 premiumAfterChance → ⊥
+  pub net-factor-short : Demand3 netFactorShort → ⊥
+  pub net-legs-exchanged : Demand3 netLegsExchanged → ⊥
+  pub net-reversed : Demand3 netReversed → ⊥
+  pub default-for-premium : Demand3 defaultForPremium → ⊥
+  pub loss-reversed : Rules lossReversed → ⊥
+  pub default-reversed : Rules defaultReversed → ⊥
+  pub premium-reversed : Rules premiumReversed → ⊥
+  pub premium-left-out : Rules premiumLeftOut → ⊥
+  pub tranche-coupon : Rules trancheCoupon → ⊥
+  pub ten-thousandths : Rules tenThousandths → ⊥
+  pub half-to-even : Rules halfToEven → ⊥
+  pub moves-down : Rules movesDown → ⊥
+  pub half-moves-down : Rules halfMovesDown → ⊥
+  pub moves-past-last : Rules movesPastLast → ⊥
+  pub moves-lost : Rules movesLost → ⊥
+  pub nothing-moves : Rules nothingMoves → ⊥
+  pub from-lent-row : Rules fromLentRow → ⊥
+
+-- ---- the families with nothing changed
+
+-- Each is ours on the uneven pool or the deck, so that the fault of an engine above is the one it is named for.
+pub record Unchanged : Type 0 where
+  pub sheet : end (backOn (λ x. x)) wholeRun ≡ end ours wholeRun
+  pub chances : end (backChances (λ x. hazardOf x 0)) wholeRun ≡ end ours wholeRun
+  pub legs : end (backLegs defaultOf premiumOf) wholeRun ≡ end ours wholeRun
+  pub losses : end (backLosses lossOf) wholeRun ≡ end ours wholeRun
+  pub nets : valueNets (λ x j d a. netValue d (getD (x .coupons) j 0) a) .value (deck .sheet 7) (root .register) (root .walk) (root .rows) 0 0
+      ≡ ours .value (deck .sheet 7) (root .register) (root .walk) (root .rows) 0 0
+  pub jumps : ratioOfJumps jumpOf .ratio (deck .sheet 7) (root .register) (root .walk) (root .rows) 0 0 ≡ ratioOn (root .rows) 0 0
+  pub sizes : ratioOfSizes millionths .ratio (deck .sheet 7) (root .register) (root .walk) (root .rows) 0 0 ≡ ratioOn (root .rows) 0 0
+  pub moves : forwardRow (λ x q. spreadBy (moves half x) first) .forward (whole .sheet 7) (root .register) (replicate 4 5) 2
+      ≡ ours .forward (whole .sheet 7) (root .register) (replicate 4 5) 2
+
+-- ---- bounds that need their factor
+
+-- The eight units and the one tranche that spans them, each in a list of its own.
+abbrev pub unitsBook : Book
+unitsBook = bookOf units (replicate 9 0)
+
+abbrev pub spannedBook : Book
+spannedBook = bookOf (spanning units) (replicate 2 0)
+
+abbrev pub unitsRun : Run
+unitsRun = blankRun unitsBook used (issue 5 ∷ opening 5 (other (filled 18 0)) ∷ back 5 sameRows 1 ∷ [])
+
+abbrev pub spannedRun : Run
+spannedRun = blankRun spannedBook used (issue 7 ∷ opening 7 (other (filled 4 0)) ∷ back 7 sameRows 1 ∷ [])
+
+-- Their legs do not add to those of the one within the distances alone, h = 1 and (doubled) 2 h + q = 3, so that demand 3 needs a factor above 1.
+pub record FactorNeeded : Type 0 where
+  pub within : Limits (unitsBook .sheet 5)
+  pub walked : Walked ours unitsRun 5 1
+  pub spanned-walked : Walked ours spannedRun 7 1
+  pub dates : dates units 1 0 ≡ 1
+  pub defaults : ¬ (Near (1 * 1) (sumTo 8 (λ j. heldD ours unitsRun units j 0)) (heldD ours spannedRun (spanning units) 0 0))
+  pub premiums : ¬ (Near (1 * 3) (2 * sumTo 8 (λ j. heldA ours unitsRun units j 0)) (2 * heldA ours spannedRun (spanning units) 0 0))
+
+-- The errors of a distribution may total more than a unit a step, so that i alone is no bound: it needs a factor.
+pub record NamesNeeded : Type 0 where
+  pub within : Limits (bookOf drifting (replicate 2 0) .sheet 7)
+  pub errors : ¬ (errors (treeOf drifting) 3 ≤ 3 * B ^ 3)
