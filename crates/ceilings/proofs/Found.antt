@@ -15,7 +15,7 @@ use Rattle.rows.specs.Rows.{sheetOf, nodeIn, anyOver, soiled}
 use Rattle.rows.specs.Limits.{Limits, Rollable, size, bare}
 use Rattle.rows.specs.declared.Pool.{Pool}
 use Rattle.rows.proofs.Search.{or-left, or-right, neither, met-left, met-right, any-hit, any-missed, any-none, any-cong}
-use Rattle.rows.proofs.Losses.{loss-width, width-most, ceiling-bare}
+use Rattle.tranches.proofs.Losses.{loss-width, width-most, ceiling-bare}
 
 -- ---- a search place by place
 

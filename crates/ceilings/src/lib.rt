@@ -11,9 +11,9 @@ ghost use Rattle.rows.specs.Rows.{sheetOf, soiled};
 ghost use Rattle.rows.specs.Kernels.{poolLosses};
 ghost use Rattle.rows.specs.Limits.{Limits, Tranched, bare, size};
 use rows::Pool;
-use rows::figures::lower_of;
-use rows::figures::pool_losses;
-use rows::figures::upper_of;
+use tranches::figures::lower_of;
+use tranches::figures::pool_losses;
+use tranches::figures::upper_of;
 
 // The accruals after a step: the ceiling of every premium leg there.
 pub fn accruals_after(accruals: &[u64], position: usize) -> u64

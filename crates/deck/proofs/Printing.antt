@@ -12,8 +12,9 @@ use lib.Seq.{sets, sets-eq}
 use Rattle.lines.specs.Text.{Wrote}
 use Rattle.desk.specs.Desk.{blank}
 use Rattle.render.specs.Lines.{deckLine}
+use Rattle.runs.specs.Running.{listingFrom}
 use Rattle.deck.specs.declared.Ran.the-variants.{Printed, NoRoom}
-use Rattle.deck.specs.Listing.{listingFrom, listing, room, Printout, printout, printing}
+use Rattle.deck.specs.Listing.{listing, room, Printout, printout, printing}
 
 -- a deck that is too long, and one that is not
 pub oversized : (deck : List ℕ) → 65536 < length deck → deckLine 20 65536 ≡ listing deck

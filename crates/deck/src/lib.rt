@@ -2,8 +2,6 @@
 ghost use mathlib.Core.Path.{_≡_};
 ghost use Rattle.deck.specs.Listing.{room as roomOf, printout, printing};
 
-mod turns; // turns.rt: one command's turn, and the turns of a deck
-
 // The most bytes of a deck.
 pub const MOST: usize = 65536;
 
@@ -43,7 +41,7 @@ pub fn run(deck: &[u8], out: &mut [u8]) -> Ran
     let mut defaults = [0u64; 1134];
     let mut premiums = [0u64; 1134];
     let mut row = [0u64; 126];
-    Ran::Printed(turns::all(
+    Ran::Printed(runs::all(
         deck,
         &mut attachments,
         &mut hazards,

@@ -1,8 +1,6 @@
 // The desk of a run: the sheet as a deck enters it, the register, the walk and the rooms, and what each order does there.
+pub mod answers; // answers.rt: what calls answer, by document 01's numbers
 pub mod entries; // entries.rt: commands 01 to 05
-pub mod orders; // orders.rt: commands 06 to 0C
-mod answers; // answers.rt: what calls answer, by document 01's numbers
-mod calls; // calls.rt: the calls of the walk, lent rows of the right length
 
 pub use walk::Pool;
 pub use walk::Walk;

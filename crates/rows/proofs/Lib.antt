@@ -4,11 +4,6 @@ pub mod Sweep
 pub mod Nodes
 pub mod Parts
 pub mod Rolls
-pub mod Losses
-pub mod Shares
-pub mod Due
 pub mod Rolled
 pub mod Sums
-pub mod Turns
-pub mod Going
 pub mod Lent

@@ -8,7 +8,8 @@ use lib.Dec.{ltb, leb, eqb}
 use borrow.Author.Tests.{ltb-false, leb-false, eqb-true, eqb-false, not-false, le-ltb, lt-leb, eq-eqb, ne-eqb}
 use Rattle.rows.specs.Tables.{any}
 use Rattle.rows.proofs.Search.{or-left, or-right, neither, any-missed, any-none}
-use Rattle.sheet.specs.Tests.{outside, differs}
+use Rattle.lists.specs.Outside.{outside}
+use Rattle.sheet.specs.Tests.{differs}
 
 -- The proposition holds and the test is false, or it does not hold and the test is true.
 abbrev pub Judged : Bool → Type 0 → Type 0

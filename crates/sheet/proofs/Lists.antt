@@ -12,8 +12,9 @@ use Rattle.cash.specs.Units.{B}
 use Rattle.tree.specs.Sheet.{Sheet, sumOf}
 use Rattle.rows.specs.Tables.{any}
 use Rattle.sheet.specs.Brought.{Brought}
-use Rattle.sheet.specs.Tests.{outside, attachmentsBad, hazardsBad, discountsBad, accrualsBad, couponsBad}
-use Rattle.sheet.proofs.Loops.{falls}
+use Rattle.lists.specs.Outside.{outside}
+use Rattle.sheet.specs.Tests.{attachmentsBad, hazardsBad, discountsBad, accrualsBad, couponsBad}
+use Rattle.lists.proofs.Loops.{falls}
 
 same-reach : (f : ℕ → Bool) {n m : ℕ} → n ≡ m → any n f ≡ any m f
 same-reach f e = ap (λ n. any n f) e

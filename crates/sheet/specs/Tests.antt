@@ -7,14 +7,12 @@ use lib.Dec.{leb, ltb, eqb}
 use Rattle.cash.specs.Units.{B}
 use Rattle.tree.specs.Sheet.{Sheet, sumOf}
 use Rattle.rows.specs.Tables.{any}
+use Rattle.lists.specs.Outside.{outside}
 use Rattle.sheet.specs.Brought.{Brought}
 use Rattle.sheet.specs.declared.Refusal.{Refusal}
 use Rattle.sheet.specs.declared.Refusal.the-variants.{Pool, Length, Recovery, Attachments, Hazard, Discount, Accrual, Coupon}
 use Rattle.sheet.specs.declared.Found.{Found}
 use Rattle.sheet.specs.declared.Found.the-variants.{Fine, Refused}
-
-abbrev pub outside : ℕ → ℕ → ℕ → Bool
-outside least most y = ltb y least || ltb most y
 
 abbrev pub differs : ℕ → ℕ → Bool
 differs a b = not (eqb a b)

@@ -1,16 +1,11 @@
-// The checks of a sheet's lists, each a yes or no. Each loop is a function of its own.
+// The checks of a sheet's lists, each a yes or no.
 ghost use mathlib.Core.Path.{_≡_};
-ghost use mathlib.Core.Bool.{false};
 ghost use mathlib.Core.List.{[]};
-ghost use Prim.Native.Nat.{ℕ, suc, pred, _+_, _≤_, _<_};
-ghost use lib.ListN.{length, getD};
-ghost use lib.Dec.{ltb, leb};
-ghost use Rattle.cash.specs.Units.{B};
-ghost use Rattle.tree.specs.Sheet.{sumOf};
-ghost use Rattle.rows.specs.Tables.{any};
+ghost use Prim.Native.Nat.{_+_, _≤_};
+ghost use lib.ListN.{length};
 ghost use Rattle.rows.specs.Rows.{sheetOf};
 ghost use Rattle.sheet.specs.Brought.{brought};
-ghost use Rattle.sheet.specs.Tests.{outside, listsBad, attachmentsBad, accrualsBad};
+ghost use Rattle.sheet.specs.Tests.{listsBad, attachmentsBad, accrualsBad};
 use cash::UNITS;
 use rows::Pool;
 
@@ -45,111 +40,15 @@ pub(crate) fn lists_differ(
     false
 }
 
-// Whether a number is below `least` or above `most`.
-fn is_outside(y: u64, least: u64, most: u64) -> bool
-    ensures { λ r. ⌜ r ≡ outside least most y ⌝ }
-{
-    if y < least {
-        return true;
-    }
-    most < y
-}
-
-// Whether a number of the list is below `least` or above `most`, where none before `from` is.
-fn rest_outside(list: &[u64], from: usize, least: u64, most: u64) -> bool
-    requires { ⌜ (from ≤ length (now list)) × (any from (λ i. outside least most (getD (now list) i 0)) ≡ false) ⌝ }
-    ensures { λ r. ⌜ r ≡ any (length (now (list .entry))) (λ i. outside least most (getD (now (list .entry)) i 0)) ⌝ }
-{
-    let mut i = from;
-    while i < list.len() {
-        if is_outside(list[i], least, most) {
-            return true;
-        }
-        i += 1;
-    }
-    false
-}
-
-// Whether one of four numbers of the list is.
-fn four_outside(list: &[u64], from: usize, least: u64, most: u64) -> bool
-    requires { ⌜ from + 4 ≤ length (now list) ⌝ }
-    ensures { λ r. ⌜ r ≡ any 4 (λ k. outside least most (getD (now (list .entry)) (from + k) 0)) ⌝ }
-{
-    if is_outside(list[from], least, most) {
-        return true;
-    }
-    if is_outside(list[from + 1], least, most) {
-        return true;
-    }
-    if is_outside(list[from + 2], least, most) {
-        return true;
-    }
-    is_outside(list[from + 3], least, most)
-}
-
-// The same of the whole list. Eight a turn, since every call checks the steps of its sheet.
-pub(crate) fn any_outside(list: &[u64], least: u64, most: u64) -> bool
-    ensures { λ r. ⌜ r ≡ any (length (now (list .entry))) (λ i. outside least most (getD (now (list .entry)) i 0)) ⌝ }
-{
-    let size = list.len();
-    let mut i = 0;
-    while 8 <= size - i {
-        if four_outside(list, i, least, most) {
-            return true;
-        }
-        if four_outside(list, i + 4, least, most) {
-            return true;
-        }
-        i += 8;
-    }
-    rest_outside(list, i, least, most)
-}
-
-// Whether a number of the list is above `most`.
-pub(crate) fn any_above(list: &[u64], most: u64) -> bool
-    ensures { λ r. ⌜ r ≡ any (length (now (list .entry))) (λ i. ltb most (getD (now (list .entry)) i 0)) ⌝ }
-{
-    any_outside(list, 0, most)
-}
-
-// Whether a number of the list is no higher than the one before it.
-pub(crate) fn any_fall(list: &[u64]) -> bool
-    ensures { λ r. ⌜ r ≡ any (pred (length (now (list .entry)))) (λ j. leb (getD (now (list .entry)) (suc j) 0) (getD (now (list .entry)) j 0)) ⌝ }
-{
-    let mut i = 1;
-    while i < list.len() {
-        if list[i] <= list[i - 1] {
-            return true;
-        }
-        i += 1;
-    }
-    false
-}
-
-// The sum of a list that is short, and of small numbers, so that it fits.
-pub(crate) fn sum(list: &[u64]) -> u64
-    requires { ⌜ length (now list) ≤ 3650 ⌝ }
-    requires { ⌜ ((i : ℕ) → i < length (now list) → getD (now list) i 0 ≤ B) ⌝ }
-    ensures { λ r. ⌜ r ≡ sumOf (now (list .entry)) ⌝ }
-{
-    let mut total = 0;
-    let mut i = 0;
-    while i < list.len() {
-        total += list[i];
-        i += 1;
-    }
-    total
-}
-
 // 4: whether the attachment points do not rise, or one is above the pool.
 pub(crate) fn attachments_bad(pool: Pool, attachments: &[u64]) -> bool
     requires { ⌜ length (now attachments) ≡ pool .tranches + 1 ⌝ }
     ensures { λ r. ⌜ r ≡ attachmentsBad (sheetOf pool (now (attachments .entry)) [] [] []) ⌝ }
 {
-    if any_fall(attachments) {
+    if lists::any_fall(attachments) {
         return true;
     }
-    any_above(attachments, UNITS)
+    lists::any_above(attachments, UNITS)
 }
 
 // 7: whether an accrual or their sum is above its limit, or the last is 0.
@@ -157,10 +56,10 @@ pub(crate) fn accruals_bad(pool: Pool, accruals: &[u64]) -> bool
     requires { ⌜ (1 ≤ pool .steps) × (pool .steps ≤ 3650) × (length (now accruals) ≡ pool .steps) ⌝ }
     ensures { λ r. ⌜ r ≡ accrualsBad (sheetOf pool [] [] [] (now (accruals .entry))) ⌝ }
 {
-    if any_above(accruals, UNITS) {
+    if lists::any_above(accruals, UNITS) {
         return true;
     }
-    if 10 * UNITS < sum(accruals) {
+    if 10 * UNITS < lists::sum(accruals) {
         return true;
     }
     let last = pool.steps - 1;

@@ -100,16 +100,16 @@ fn figures_refusal(
     if checks::attachments_bad(pool, attachments) {
         return Found::Refused(Refusal::Attachments);
     }
-    if checks::any_above(hazards, UNITS) {
+    if lists::any_above(hazards, UNITS) {
         return Found::Refused(Refusal::Hazard);
     }
-    if checks::any_outside(discounts, 1, UNITS) {
+    if lists::any_outside(discounts, 1, UNITS) {
         return Found::Refused(Refusal::Discount);
     }
     if checks::accruals_bad(pool, accruals) {
         return Found::Refused(Refusal::Accrual);
     }
-    if checks::any_above(coupons, COUPON_MOST) {
+    if lists::any_above(coupons, COUPON_MOST) {
         return Found::Refused(Refusal::Coupon);
     }
     Found::Fine

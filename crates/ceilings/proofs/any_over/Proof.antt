@@ -9,7 +9,7 @@ use native.Mathlib.Nat.{mul-le-mul}
 use native.Mathlib.Omega.{arith}
 use Rattle.tree.specs.Sheet.{Sheet, defaultMost}
 use Rattle.rows.specs.Limits.{bare}
-use Rattle.rows.proofs.Losses.{losses-long, points-rise, ceiling-read}
+use Rattle.tranches.proofs.Losses.{losses-long, points-rise, ceiling-read}
 use Rattle.rows.proofs.Parts.{next-tranche}
 use Rattle.ceilings.proofs.Found.{Clean, overAt, clean-none, clean-more, over-default, over-premium, under-both, over-found, over-none}
 use Rattle.ceilings.proofs.any_over.Statement.{statement}

@@ -33,7 +33,7 @@ returns-2 c =
       c .before .before .before .before .before .if1 .left,
       c .before .before .before .before .before .before .room .ensures,
     )) (oversized (s .args .deck .now)
-    (c .before .before .before .before .if2 .taken)) (c .before .before .put-deck .ensures .0)
+    (omega (arith, c .before .before .before .before .if2 .taken))) (c .before .before .put-deck .ensures .0)
     (omega (
       arith,
       c .before .before .before .before .before .if1 .left,
@@ -81,7 +81,7 @@ all-requires c κs =
           c .before .before .before .before .before .before .before .before .before .before .before .if1 .left,
           c .before .before .before .before .before .before .before .before .before .before .before .before .room .ensures,
           room-sized
-              (length (s .args .deck .now)) (c .before .before .before .before .before .before .before .before .before .before .if2 .left),
+              (length (s .args .deck .now)) (omega (arith, c .before .before .before .before .before .before .before .before .before .before .if2 .left)),
         ),
       ),
     )
@@ -96,7 +96,7 @@ returns-3 c =
       arith,
       c .before .before .before .before .before .before .before .before .before .before .before .before .before .before .before .before .before .before .before .before .before .before .before .if1 .left,
       c .before .before .before .before .before .before .before .before .before .before .before .before .before .before .before .before .before .before .before .before .before .before .before .before .room .ensures,
-    )) (sized (s .args .deck .now) (c .before .before .before .before .before .before .before .before .before .before .before .before .before .before .before .before .before .before .before .before .before .before .if2 .left)) (c .before .before .before .before .before .before .before .before .before .before .before .all .ensures .0) (c .before .before .before .before .before .before .before .before .before .before .before .all .ensures .1)
+    )) (sized (s .args .deck .now) (omega (arith, c .before .before .before .before .before .before .before .before .before .before .before .before .before .before .before .before .before .before .before .before .before .before .if2 .left))) (c .before .before .before .before .before .before .before .before .before .before .before .all .ensures .0) (c .before .before .before .before .before .before .before .before .before .before .before .all .ensures .1)
 
 pub run-spec : {M : Type 1} → statement M
 run-spec =

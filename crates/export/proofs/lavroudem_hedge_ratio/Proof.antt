@@ -28,7 +28,7 @@ walk-out-requires c κs = search needs
 returns : tie.Need-returns
 returns c =
     ratio-handed (c .before .before .before .before .before .before .before .before .before .before .before .before .before .before .before .args .pool) (c .before .before .before .before .before .before .before .before .before .before .before .before .before .before .before .args .given) _ _ (c .before .before .before .before .before .pool-in .ensures) (c .before .before .before .before .before .before .walk-in .ensures) _ _ _ _ _ _ _ _ _
-    (c .before .before .before .before .hedge-ratio .result) _ _ _ (c .before .before .before .before .hedge-ratio .ensures) (c .before .before .number-in .ensures)
+    (c .before .before .before .before .hedge-ratio .result) _ _ _ (c .before .before .before .before .hedge-ratio .ensures .0) (c .before .before .number-in .ensures)
     (toZ-ofZ w64 _ (search needs) ∙ c .before .ratio-in .ensures) (c .walk-out .ensures)
 
 pub lavroudem-hedge-ratio-spec : {M : Type 1} → statement M

@@ -20,12 +20,6 @@ Inv-loop accrual outstandings rows₀ size i₀ rows i = (i ≤ length rows₀) 
 abbrev μ-loop : tie.MeasureT-loop
 μ-loop accrual outstandings rows₀ size i₀ rows i = length rows₀ - i
 
-returns : tie.Need-returns Inv-loop μ-loop
-unfolding accruedAt
-returns c =
-    let s = c .before .before .before in
-    is-tab _ _ _ refl (λ i q. omega (arith, payment-none (s .args .accrual) (getD (s .args .outstandings .now) i 0) (c .if1 .taken)))
-
 loop-holds : tie.Need-loop-holds Inv-loop μ-loop
 loop-holds c = (search needs, swept-none _ _)
 
@@ -79,6 +73,12 @@ loop-again c =
 
 same-length : tie.Need-same-length Inv-loop μ-loop
 same-length c = c .before .loop .inv .1 .same
+
+returns : tie.Need-returns Inv-loop μ-loop
+unfolding accruedAt
+returns c =
+    let s = c .before .before .before in
+    is-tab _ _ _ refl (λ i q. omega (arith, payment-none (s .args .accrual) (getD (s .args .outstandings .now) i 0) (c .if1 .taken)))
 
 returns-2 : tie.Need-returns-2 Inv-loop μ-loop
 returns-2 c = swept-all _ _ _ _ (c .before .loop .inv .1) (omega arith)

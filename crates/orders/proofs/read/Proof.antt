@@ -1,0 +1,52 @@
+-- `orders::read` meets its contract: each way out is a law of `Acting`. Assumes nothing.
+use Rattle.sheet.specs.Brought.{Brought, brought}
+use Rattle.walk.specs.Answers.{Rows}
+use Rattle.walk.specs.Calls.{rowsOf}
+use Rattle.orders.proofs.Acting.{value-reads, delta-reads, nothing-read}
+use borrow.Author.Needs.{needs}
+use Rattle.orders.proofs.read.Statement.{statement}
+use Rattle.orders.proofs.read.Tie as tie
+
+abbrev sheet : tie.Start → Brought
+sheet s = brought (s .args .pool) (s .args .attachments .now) (s .args .hazards .now) (s .args .discounts .now) (s .args .accruals .now) (s .args .coupons .now)
+
+abbrev rooms : tie.Start → Rows
+rooms s = rowsOf (s .args .defaults .now) (s .args .premiums .now)
+
+enum-known-order : tie.Need-enum-known-order
+enum-known-order c = search needs
+
+value-requires : tie.Need-value-requires
+value-requires c κs = search needs
+
+enum-known-order-2 : tie.Need-enum-known-order-2
+enum-known-order-2 c = search needs
+
+hedge-ratio-requires : tie.Need-hedge-ratio-requires
+hedge-ratio-requires c κs = search needs
+
+returns : tie.Need-returns
+returns c =
+    let s = c .before .before .before .before .before .before .before .before .before .before .before .before in
+    value-reads (s .args .order) (sheet s) (s .args .register .now) (s .args .walk) (rooms s) (c .before .before .order .given .1) (c .value .ensures)
+
+returns-2 : tie.Need-returns-2
+returns-2 c =
+    let s = c .before .before .before .before .before .before .before .before .before .before .before .before in
+    delta-reads (s .args .order) (sheet s) (s .args .register .now) (s .args .walk) (rooms s) (c .before .before .order2 .given .1) (c .hedge-ratio .ensures)
+
+returns-3 : tie.Need-returns-3
+returns-3 c =
+    let s = c .before .before .before .before .before .before .before .before .before in nothing-read (s .args .order) (sheet s) (s .args .register .now) (s .args .walk) (rooms s) (c .match .keys3)
+
+pub read-spec : {M : Type 1} → statement M
+read-spec =
+    tie.close
+    (tie.spec
+    enum-known-order
+    value-requires
+    enum-known-order-2
+    hedge-ratio-requires
+    returns
+    returns-2
+    returns-3)
