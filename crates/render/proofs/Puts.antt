@@ -9,8 +9,8 @@ use lib.ListN.{length}
 use lib.Signed.{natAbs-le}
 use mir.Syntax.{w64}
 use mir.Val.{SFits}
-use Rattle.lines.specs.Text.{field, Wrote}
-use Rattle.lines.proofs.Laws.{wrote-text, wrote-both, wrote-long, length-count, length-field-pos, length-field}
+use Rattle.lines.specs.Text.{decimal, field, Wrote}
+use Rattle.lines.proofs.Laws.{wrote-text, wrote-both, wrote-long, length-decimal, length-field-pos, length-field}
 use Rattle.lines.proofs.Negated.{read, read-is}
 use Rattle.commands.specs.declared.Order.{Order}
 use Rattle.commands.specs.declared.Order.the-variants.{Issue, Withdraw, Open, Back, Value, Delta, Forward}
@@ -34,21 +34,25 @@ both p q = record { wrote = wrote-both (p .wrote) (q .wrote); long = q .long ∙
 pub last : {before text after : List ℕ} {at end k : ℕ} → Put before at text after end k → Put before at (text ++ []) after end k
 last {text = text} p = record { wrote = wrote-text (sym (append-nil text)) (p .wrote); long = p .long; short = p .short }
 
--- fields of a byte, of nothing, and of 64 bits
-pub byte-long : (n : ℕ) → n < 2 ^ 8 → length (field (pos n)) ≤ 4
-byte-long n h = length-count 3 n (lit≤ tt) (omega arith)
+-- a byte and a zero in decimal, and fields of 64 bits
+pub byte-long : (n : ℕ) → n < 2 ^ 8 → length (decimal n) ≤ 3
+byte-long n h = length-decimal 3 n (lit≤ tt) (omega arith)
 
-pub zero-long : length (field (pos 0)) ≤ 2
-zero-long = length-count 1 0 (lit≤ tt) (lit< tt)
+pub zero-long : length (decimal 0) ≤ 1
+zero-long = length-decimal 1 0 (lit≤ tt) (lit< tt)
+
+-- there is room for an unsigned one
+pub count-fits : (n b long : ℕ) → n < 2 ^ 64 → b + 21 ≤ long → b + length (field (pos n)) ≤ long
+count-fits n b long h room = omega (arith, length-field-pos n h)
 
 pub signed-long : (z : ℤ) → SFits w64 z → length (field (read z)) ≤ 21
 signed-long z f = rw (read-is z f) (length-field z (natAbs-le z (f .sfits)))
 
-pub put-byte : {before after : List ℕ} {at end : ℕ} (n : ℕ) → n < 2 ^ 8 → Wrote before at (field (pos n)) after end → Put before at (field (pos n)) after end 4
-put-byte n h w = put 4 w (byte-long n h)
+pub put-byte : {before after : List ℕ} {at end : ℕ} (n : ℕ) → n < 2 ^ 8 → Wrote before at (decimal n) after end → Put before at (decimal n) after end 3
+put-byte n h w = put 3 w (byte-long n h)
 
-pub put-zero : {before after : List ℕ} {at end : ℕ} → Wrote before at (field (pos 0)) after end → Put before at (field (pos 0)) after end 2
-put-zero w = put 2 w zero-long
+pub put-zero : {before after : List ℕ} {at end : ℕ} → Wrote before at (decimal 0) after end → Put before at (decimal 0) after end 1
+put-zero w = put 1 w zero-long
 
 pub put-wide : {before after : List ℕ} {at end : ℕ} (n : ℕ) → n < 2 ^ 64 → Wrote before at (field (pos n)) after end → Put before at
     (field (pos n)) after end 21
@@ -58,7 +62,7 @@ put-wide n h w = put 21 w (length-field-pos n h)
 pub put-sign : {before after : List ℕ} {at end : ℕ} (z : ℤ) → SFits w64 z → Wrote before at (field (read z)) after end → Put before at (field z) after end 21
 put-sign z f w = put 21 (wrote-text (ap field (read-is z f)) w) (length-field z (natAbs-le z (f .sfits)))
 
-pub word-long : (o : Order) → length (word o) ≤ 8
+pub word-long : (o : Order) → length (word o) ≤ 9
 unfolding word
 word-long (Issue y) = lit≤ tt
 word-long (Withdraw y) = lit≤ tt
@@ -69,7 +73,7 @@ word-long (Delta j k) = lit≤ tt
 word-long (Forward i k) = lit≤ tt
 
 -- an answer has three values at most
-pub width-most : (a : Answer) → width (answerSaid a) ≤ 67
+pub width-most : (a : Answer) → width (answerSaid a) ≤ 66
 width-most (Refused n) = lit≤ tt
 width-most Done = lit≤ tt
 width-most (Position i) = lit≤ tt

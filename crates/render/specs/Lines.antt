@@ -3,34 +3,35 @@ use Prim.Native.Nat.{ℕ, _+_, _*_}
 use mathlib.Core.List.{List, [], _∷_, _++_}
 use lib.IntN.{ℤ, pos}
 use lib.ListN.{length}
-use Rattle.lines.specs.Text.{field}
+use Rattle.lines.specs.Text.{decimal, field}
 use Rattle.commands.specs.declared.Order.{Order}
 use Rattle.commands.specs.declared.Order.the-variants.{Issue, Withdraw, Open, Back, Value, Delta, Forward}
 use Rattle.walk.specs.Answers.{Said}
 
--- The word of an order, in ASCII: issue, withdraw, open, back, value, delta, forward.
+-- The word of an order, in ASCII, with its space (32): issue, withdraw, open, back, value, delta, forward.
 unfoldable pub word : Order → List ℕ
-word (Issue y) = 105 ∷ 115 ∷ 115 ∷ 117 ∷ 101 ∷ []
-word (Withdraw y) = 119 ∷ 105 ∷ 116 ∷ 104 ∷ 100 ∷ 114 ∷ 97 ∷ 119 ∷ []
-word Open = 111 ∷ 112 ∷ 101 ∷ 110 ∷ []
-word (Back c) = 98 ∷ 97 ∷ 99 ∷ 107 ∷ []
-word (Value j k) = 118 ∷ 97 ∷ 108 ∷ 117 ∷ 101 ∷ []
-word (Delta j k) = 100 ∷ 101 ∷ 108 ∷ 116 ∷ 97 ∷ []
-word (Forward i k) = 102 ∷ 111 ∷ 114 ∷ 119 ∷ 97 ∷ 114 ∷ 100 ∷ []
+word (Issue y) = 105 ∷ 115 ∷ 115 ∷ 117 ∷ 101 ∷ 32 ∷ []
+word (Withdraw y) = 119 ∷ 105 ∷ 116 ∷ 104 ∷ 100 ∷ 114 ∷ 97 ∷ 119 ∷ 32 ∷ []
+word Open = 111 ∷ 112 ∷ 101 ∷ 110 ∷ 32 ∷ []
+word (Back c) = 98 ∷ 97 ∷ 99 ∷ 107 ∷ 32 ∷ []
+word (Value j k) = 118 ∷ 97 ∷ 108 ∷ 117 ∷ 101 ∷ 32 ∷ []
+word (Delta j k) = 100 ∷ 101 ∷ 108 ∷ 116 ∷ 97 ∷ 32 ∷ []
+word (Forward i k) = 102 ∷ 111 ∷ 114 ∷ 119 ∷ 97 ∷ 114 ∷ 100 ∷ 32 ∷ []
 
--- deck
+-- deck, with its space
 unfoldable pub deckWord : List ℕ
-deckWord = 100 ∷ 101 ∷ 99 ∷ 107 ∷ []
+deckWord = 100 ∷ 101 ∷ 99 ∷ 107 ∷ 32 ∷ []
 
+-- Each further field stands behind a space.
 unfoldable pub fields : List ℤ → List ℕ
 fields [] = []
 fields (z ∷ zs) = field z ++ fields zs
 
 -- The refusal, or 0 and the answer.
 unfoldable pub told : Said → List ℕ
-told s = field (pos (s .number)) ++ fields (s .values)
+told s = decimal (s .number) ++ fields (s .values)
 
--- A word, fields, and byte 0A.
+-- A word, what stands behind it, and byte 0A.
 unfoldable pub line : List ℕ → List ℕ → List ℕ
 line w f = w ++ (f ++ (0x0A ∷ []))
 
@@ -39,8 +40,8 @@ orderLine o s = line (word o) (told s)
 
 -- The refusal and an offset.
 unfoldable pub deckLine : ℕ → ℕ → List ℕ
-deckLine number at = line deckWord (field (pos number) ++ field (pos at))
+deckLine number at = line deckWord (decimal number ++ field (pos at))
 
 -- The most bytes of what is told, by the width of the code's numbers: a byte, and 64 bits each.
 abbrev pub width : Said → ℕ
-width s = 4 + 21 * length (s .values)
+width s = 3 + 21 * length (s .values)

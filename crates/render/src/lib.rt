@@ -8,57 +8,57 @@ ghost use Rattle.render.specs.Lines.{word, told, orderLine, deckLine, wi
 use commands::Order;
 use desk::Answer;
 
-// The word of an order.
+// The word of an order, with its space.
 fn put_word(out: &mut [u8], at: usize, order: Order) -> usize
-    requires { ⌜ at + 8 ≤ length (now out) ⌝ }
+    requires { ⌜ at + 9 ≤ length (now out) ⌝ }
     ensures { λ r. ⌜ Wrote (now (out .entry)) at (word order) (now (out .exit)) r ⌝ }
 {
     match order {
-        Order::Issue(_) => lines::put_bytes(out, at, b"issue"),
-        Order::Withdraw(_) => lines::put_bytes(out, at, b"withdraw"),
-        Order::Open => lines::put_bytes(out, at, b"open"),
-        Order::Back(_) => lines::put_bytes(out, at, b"back"),
+        Order::Issue(_) => lines::put_bytes(out, at, b"issue "),
+        Order::Withdraw(_) => lines::put_bytes(out, at, b"withdraw "),
+        Order::Open => lines::put_bytes(out, at, b"open "),
+        Order::Back(_) => lines::put_bytes(out, at, b"back "),
         Order::Value {
             tranche: _,
             count: _,
-        } => lines::put_bytes(out, at, b"value"),
+        } => lines::put_bytes(out, at, b"value "),
         Order::Delta {
             tranche: _,
             count: _,
-        } => lines::put_bytes(out, at, b"delta"),
-        Order::Forward { step: _, count: _ } => lines::put_bytes(out, at, b"forward"),
+        } => lines::put_bytes(out, at, b"delta "),
+        Order::Forward { step: _, count: _ } => lines::put_bytes(out, at, b"forward "),
     }
 }
 
 // A refusal, or 0 and the answer.
 fn put_answer(out: &mut [u8], at: usize, answer: Answer) -> usize
-    requires { ⌜ at + 67 ≤ length (now out) ⌝ }
+    requires { ⌜ at + 66 ≤ length (now out) ⌝ }
     ensures writes { λ r. ⌜ Wrote (now (out .entry)) at (told (answerSaid answer)) (now (out .exit)) r ⌝ }
     ensures short { λ r. ⌜ r ≤ at + width (answerSaid answer) ⌝ }
 {
     match answer {
         Answer::Refused(number) => {
-            return lines::put_count(out, at, number as u64);
+            return lines::put_decimal(out, at, number as u64);
         }
         Answer::Done => {
-            return lines::put_count(out, at, 0);
+            return lines::put_decimal(out, at, 0);
         }
         Answer::Position(position) => {
-            let b = lines::put_count(out, at, 0);
+            let b = lines::put_decimal(out, at, 0);
             return lines::put_count(out, b, position as u64);
         }
         Answer::Worth(d, a, w) => {
-            let b = lines::put_count(out, at, 0);
+            let b = lines::put_decimal(out, at, 0);
             let c = lines::put_count(out, b, d);
             let e = lines::put_count(out, c, a);
             return lines::put_field(out, e, w);
         }
         Answer::Ratio(ratio) => {
-            let b = lines::put_count(out, at, 0);
+            let b = lines::put_decimal(out, at, 0);
             return lines::put_field(out, b, ratio);
         }
         Answer::Probability(q) => {
-            let b = lines::put_count(out, at, 0);
+            let b = lines::put_decimal(out, at, 0);
             return lines::put_count(out, b, q);
         }
     }
@@ -68,7 +68,7 @@ fn put_answer(out: &mut [u8], at: usize, answer: Answer) -> usize
 pub fn put_line(out: &mut [u8], at: usize, order: Order, answer: Answer) -> usize
     requires { ⌜ at + 76 ≤ length (now out) ⌝ }
     ensures writes { λ r. ⌜ Wrote (now (out .entry)) at (orderLine order (answerSaid answer)) (now (out .exit)) r ⌝ }
-    ensures short { λ r. ⌜ r ≤ at + 9 + width (answerSaid answer) ⌝ }
+    ensures short { λ r. ⌜ r ≤ at + 10 + width (answerSaid answer) ⌝ }
 {
     let b = put_word(out, at, order);
     let c = put_answer(out, b, answer);
@@ -81,8 +81,8 @@ pub fn put_deck(out: &mut [u8], at: usize, number: u8, offset: usize) -> usize
     ensures writes { λ r. ⌜ Wrote (now (out .entry)) at (deckLine number offset) (now (out .exit)) r ⌝ }
     ensures short { λ r. ⌜ r ≤ at + 30 ⌝ }
 {
-    let b = lines::put_bytes(out, at, b"deck");
-    let c = lines::put_count(out, b, number as u64);
+    let b = lines::put_bytes(out, at, b"deck ");
+    let c = lines::put_decimal(out, b, number as u64);
     let d = lines::put_count(out, c, offset as u64);
     lines::put_end(out, d)
 }

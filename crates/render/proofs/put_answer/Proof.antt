@@ -3,12 +3,12 @@ use Prim.Native.Nat.{ℕ}
 use mathlib.Core.Path.{_≡_, sym, ap}
 use native.Mathlib.Omega.{arith}
 use mathlib.Core.List.{List}
-use Rattle.lines.proofs.Laws.{wrote-text, length-field-pos}
+use Rattle.lines.proofs.Laws.{wrote-text}
 use Rattle.desk.specs.declared.Answer.{Answer}
 use Rattle.desk.specs.Held.{answerSaid}
 use Rattle.walk.specs.Answers.{Said}
 use Rattle.render.specs.Lines.{told, fields, width}
-use Rattle.render.proofs.Puts.{put, both, last, put-byte, put-zero, put-wide, put-sign, byte-long, zero-long, signed-long}
+use Rattle.render.proofs.Puts.{put, both, last, put-byte, put-zero, put-wide, put-sign, byte-long, zero-long, signed-long, count-fits}
 use borrow.Author.Needs.{needs}
 use Rattle.render.proofs.put_answer.Statement.{statement}
 use Rattle.render.proofs.put_answer.Tie as tie
@@ -22,11 +22,11 @@ most a = width (answerSaid a)
 enum-known-answer : tie.Need-enum-known-answer
 enum-known-answer c = search needs
 
-cast-put-count : tie.Need-cast-put-count
-cast-put-count c = search needs
+cast-put-decimal : tie.Need-cast-put-decimal
+cast-put-decimal c = search needs
 
-put-count-requires : tie.Need-put-count-requires
-put-count-requires c κs =
+put-decimal-requires : tie.Need-put-decimal-requires
+put-decimal-requires c κs =
     omega (arith, byte-long (c .before .before .answer .given .0 .0) (c .before .known-told .given .0 .1), c .before .before .before .before .before .pre)
 
 same-length : tie.Need-same-length
@@ -37,14 +37,14 @@ unfolding told fields
 returns c =
     let e = c .before .before .before .before .before .answer .given .1 in
     let all = last (put-byte (c .before .before .before .before .before .answer .given .0 .0)
-    (c .before .before .before .before .known-told .given .0 .1) (c .before .before .put-count .ensures)) in
+    (c .before .before .before .before .known-told .given .0 .1) (c .before .before .put-decimal .ensures)) in
     (wrote-text (sym (ap text e)) (all .wrote), omega (arith, all .short, ap most e))
 
 enum-told : tie.Need-enum-told
 enum-told c = search needs
 
-put-count-requires-2 : tie.Need-put-count-requires-2
-put-count-requires-2 c κs =
+put-decimal-requires-2 : tie.Need-put-decimal-requires-2
+put-decimal-requires-2 c κs =
     omega (arith, zero-long, c .before .before .before .before .pre)
 
 same-length-2 : tie.Need-same-length-2
@@ -54,26 +54,21 @@ returns-2 : tie.Need-returns-2
 unfolding told fields
 returns-2 c =
     let e = c .before .before .before .before .enum-told .given .1 in
-    let all = last (put-zero (c .before .before .put-count2 .ensures)) in
+    let all = last (put-zero (c .before .before .put-decimal2 .ensures)) in
     (wrote-text (sym (ap text e)) (all .wrote), omega (arith, all .short, ap most e))
 
 enum-known-answer-2 : tie.Need-enum-known-answer-2
 enum-known-answer-2 c = search needs
 
-put-count-requires-3 : tie.Need-put-count-requires-3
-put-count-requires-3 c κs =
+put-decimal-requires-3 : tie.Need-put-decimal-requires-3
+put-decimal-requires-3 c κs =
     omega (arith, zero-long, c .before .before .before .before .before .pre)
 
-put-count-requires-4 : tie.Need-put-count-requires-4
-put-count-requires-4 c κs =
-    let p = put-zero (c .before .before .before .put-count3 .ensures) in omega (
-      arith,
-      p .short,
-      p .long,
-      length-field-pos (c .before .before .before .before .before .before .answer2 .given .0 .0)
-          (c .before .before .before .before .before .known-told2 .given .0 .1),
-      c .before .before .before .before .before .before .before .before .before .pre,
-    )
+put-count-requires : tie.Need-put-count-requires
+put-count-requires c κs =
+    let p = put-zero (c .before .before .before .put-decimal3 .ensures) in
+    count-fits _ _ _ (omega (arith, c .before .before .before .before .before .known-told2 .given .0 .1))
+    (omega (arith, p .short, p .long, c .before .before .before .before .before .before .before .before .before .pre))
 
 same-length-3 : tie.Need-same-length-3
 same-length-3 c = search needs
@@ -82,50 +77,40 @@ returns-3 : tie.Need-returns-3
 unfolding told fields
 returns-3 c =
     let e = c .before .before .before .before .before .before .before .before .before .answer2 .given .1 in
-    let all = both (put-zero (c .before .before .before .before .before .before .put-count3 .ensures))
+    let all = both (put-zero (c .before .before .before .before .before .before .put-decimal3 .ensures))
     (last (put-wide (c .before .before .before .before .before .before .before .before .before .answer2 .given .0 .0)
-    (c .before .before .before .before .before .before .before .before .known-told2 .given .0 .1) (c .before .before .put-count4 .ensures))) in
+    (c .before .before .before .before .before .before .before .before .known-told2 .given .0 .1) (c .before .before .put-count .ensures))) in
     (wrote-text (sym (ap text e)) (all .wrote), omega (arith, all .short, ap most e))
 
 enum-known-answer-3 : tie.Need-enum-known-answer-3
 enum-known-answer-3 c = search needs
 
-put-count-requires-5 : tie.Need-put-count-requires-5
-put-count-requires-5 c κs =
+put-decimal-requires-4 : tie.Need-put-decimal-requires-4
+put-decimal-requires-4 c κs =
     omega (arith, zero-long, c .before .before .before .before .before .pre)
 
-put-count-requires-6 : tie.Need-put-count-requires-6
-put-count-requires-6 c κs =
-    let p = put-zero (c .before .before .before .put-count5 .ensures) in omega (
-      arith,
-      p .short,
-      p .long,
-      length-field-pos (c .before .before .before .before .before .before .answer3 .given .0 .0)
-          (c .before .before .before .before .before .known-told3 .given .0 .1),
-      c .before .before .before .before .before .before .before .before .before .pre,
-    )
+put-count-requires-2 : tie.Need-put-count-requires-2
+put-count-requires-2 c κs =
+    let p = put-zero (c .before .before .before .put-decimal4 .ensures) in
+    count-fits _ _ _ (omega (arith, c .before .before .before .before .before .known-told3 .given .0 .1))
+    (omega (arith, p .short, p .long, c .before .before .before .before .before .before .before .before .before .pre))
 
-put-count-requires-7 : tie.Need-put-count-requires-7
-put-count-requires-7 c κs =
+put-count-requires-3 : tie.Need-put-count-requires-3
+put-count-requires-3 c κs =
     let v = c .before .before .before .before .before .before .before .before .before .before .answer3 .given .0 in
     let k = c .before .before .before .before .before .before .before .before .before .known-told3 .given in
-    let p = both (put-zero (c .before .before .before .before .before .before .before .put-count5 .ensures))
-    (put-wide (v .0) (k .0 .1) (c .before .before .before .put-count6 .ensures)) in
-    omega (
-      arith,
-      p .short,
-      p .long,
-      length-field-pos (v .1 .0) (k .1 .0 .1),
-      c .before .before .before .before .before .before .before .before .before .before .before .before .before .pre,
-    )
+    let p = both (put-zero (c .before .before .before .before .before .before .before .put-decimal4 .ensures))
+    (put-wide (v .0) (k .0 .1) (c .before .before .before .put-count2 .ensures)) in
+    count-fits _ _ _ (omega (arith, k .1 .0 .1))
+    (omega (arith, p .short, p .long, c .before .before .before .before .before .before .before .before .before .before .before .before .before .pre))
 
 put-field-requires : tie.Need-put-field-requires
 put-field-requires c κs =
     let v = c .before .before .before .before .before .before .before .before .before .before .before .before .before .before .answer3 .given .0 in
     let k = c .before .before .before .before .before .before .before .before .before .before .before .before .before .known-told3 .given in
-    let p = both (put-zero (c .before .before .before .before .before .before .before .before .before .before .before .put-count5 .ensures))
-    (both (put-wide (v .0) (k .0 .1) (c .before .before .before .before .before .before .before .put-count6 .ensures))
-    (put-wide (v .1 .0) (k .1 .0 .1) (c .before .before .before .put-count7 .ensures))) in
+    let p = both (put-zero (c .before .before .before .before .before .before .before .before .before .before .before .put-decimal4 .ensures))
+    (both (put-wide (v .0) (k .0 .1) (c .before .before .before .before .before .before .before .put-count2 .ensures))
+    (put-wide (v .1 .0) (k .1 .0 .1) (c .before .before .before .put-count3 .ensures))) in
     omega (
       arith,
       p .short,
@@ -144,22 +129,22 @@ returns-4 c =
     let v = c .before .before .before .before .before .before .before .before .before .before .before .before .before .before .before .before .before .answer3 .given .0 in
     let k = c .before .before .before .before .before .before .before .before .before .before .before .before .before .before .before .before .known-told3 .given in
     let all = both (put-zero
-    (c .before .before .before .before .before .before .before .before .before .before .before .before .before .before .put-count5 .ensures))
-    (both (put-wide (v .0) (k .0 .1) (c .before .before .before .before .before .before .before .before .before .before .put-count6 .ensures))
-    (both (put-wide (v .1 .0) (k .1 .0 .1) (c .before .before .before .before .before .before .put-count7 .ensures))
+    (c .before .before .before .before .before .before .before .before .before .before .before .before .before .before .put-decimal4 .ensures))
+    (both (put-wide (v .0) (k .0 .1) (c .before .before .before .before .before .before .before .before .before .before .put-count2 .ensures))
+    (both (put-wide (v .1 .0) (k .1 .0 .1) (c .before .before .before .before .before .before .put-count3 .ensures))
     (last (put-sign (v .1 .1 .0) (record { sfits = k .1 .1 .0 .1 }) (c .before .before .put-field .ensures))))) in
     (wrote-text (sym (ap text e)) (all .wrote), omega (arith, all .short, ap most e))
 
 enum-known-answer-4 : tie.Need-enum-known-answer-4
 enum-known-answer-4 c = search needs
 
-put-count-requires-8 : tie.Need-put-count-requires-8
-put-count-requires-8 c κs =
+put-decimal-requires-5 : tie.Need-put-decimal-requires-5
+put-decimal-requires-5 c κs =
     omega (arith, zero-long, c .before .before .before .before .before .pre)
 
 put-field-requires-2 : tie.Need-put-field-requires-2
 put-field-requires-2 c κs =
-    let p = put-zero (c .before .before .before .put-count8 .ensures) in omega (
+    let p = put-zero (c .before .before .before .put-decimal5 .ensures) in omega (
       arith,
       p .short,
       p .long,
@@ -175,7 +160,7 @@ returns-5 : tie.Need-returns-5
 unfolding told fields
 returns-5 c =
     let e = c .before .before .before .before .before .before .before .before .before .answer4 .given .1 in
-    let all = both (put-zero (c .before .before .before .before .before .before .put-count8 .ensures))
+    let all = both (put-zero (c .before .before .before .before .before .before .put-decimal5 .ensures))
     (last (put-sign (c .before .before .before .before .before .before .before .before .before .answer4 .given .0 .0)
     (record { sfits = c .before .before .before .before .before .before .before .before .known-told4 .given .0 .1 })
     (c .before .before .put-field2 .ensures))) in
@@ -184,20 +169,15 @@ returns-5 c =
 enum-known-answer-5 : tie.Need-enum-known-answer-5
 enum-known-answer-5 c = search needs
 
-put-count-requires-9 : tie.Need-put-count-requires-9
-put-count-requires-9 c κs =
+put-decimal-requires-6 : tie.Need-put-decimal-requires-6
+put-decimal-requires-6 c κs =
     omega (arith, zero-long, c .before .before .before .before .before .pre)
 
-put-count-requires-10 : tie.Need-put-count-requires-10
-put-count-requires-10 c κs =
-    let p = put-zero (c .before .before .before .put-count9 .ensures) in omega (
-      arith,
-      p .short,
-      p .long,
-      length-field-pos (c .before .before .before .before .before .before .answer5 .given .0 .0)
-          (c .before .before .before .before .before .known-told5 .given .0 .1),
-      c .before .before .before .before .before .before .before .before .before .pre,
-    )
+put-count-requires-4 : tie.Need-put-count-requires-4
+put-count-requires-4 c κs =
+    let p = put-zero (c .before .before .before .put-decimal6 .ensures) in
+    count-fits _ _ _ (omega (arith, c .before .before .before .before .before .known-told5 .given .0 .1))
+    (omega (arith, p .short, p .long, c .before .before .before .before .before .before .before .before .before .pre))
 
 same-length-6 : tie.Need-same-length-6
 same-length-6 c = search needs
@@ -206,9 +186,9 @@ returns-6 : tie.Need-returns-6
 unfolding told fields
 returns-6 c =
     let e = c .before .before .before .before .before .before .before .before .before .answer5 .given .1 in
-    let all = both (put-zero (c .before .before .before .before .before .before .put-count9 .ensures))
+    let all = both (put-zero (c .before .before .before .before .before .before .put-decimal6 .ensures))
     (last (put-wide (c .before .before .before .before .before .before .before .before .before .answer5 .given .0 .0)
-    (c .before .before .before .before .before .before .before .before .known-told5 .given .0 .1) (c .before .before .put-count10 .ensures))) in
+    (c .before .before .before .before .before .before .before .before .known-told5 .given .0 .1) (c .before .before .put-count4 .ensures))) in
     (wrote-text (sym (ap text e)) (all .wrote), omega (arith, all .short, ap most e))
 
 pub put-answer-spec : {M : Type 1} → statement M
@@ -216,33 +196,33 @@ put-answer-spec =
     tie.close
     (tie.spec
     enum-known-answer
-    cast-put-count
-    put-count-requires
+    cast-put-decimal
+    put-decimal-requires
     same-length
     returns
     enum-told
-    put-count-requires-2
+    put-decimal-requires-2
     same-length-2
     returns-2
     enum-known-answer-2
-    put-count-requires-3
-    put-count-requires-4
+    put-decimal-requires-3
+    put-count-requires
     same-length-3
     returns-3
     enum-known-answer-3
-    put-count-requires-5
-    put-count-requires-6
-    put-count-requires-7
+    put-decimal-requires-4
+    put-count-requires-2
+    put-count-requires-3
     put-field-requires
     same-length-4
     returns-4
     enum-known-answer-4
-    put-count-requires-8
+    put-decimal-requires-5
     put-field-requires-2
     same-length-5
     returns-5
     enum-known-answer-5
-    put-count-requires-9
-    put-count-requires-10
+    put-decimal-requires-6
+    put-count-requires-4
     same-length-6
     returns-6)

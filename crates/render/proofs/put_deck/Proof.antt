@@ -14,24 +14,24 @@ slice-aggregate-put-bytes c = search needs
 put-bytes-requires : tie.Need-put-bytes-requires
 put-bytes-requires c κs = search needs
 
-put-count-requires : tie.Need-put-count-requires
-put-count-requires c κs =
-    let s = c .before .before .before .before .before .before .before in let p = put 4 (c .before .before .before .put-bytes .ensures) (lit≤ tt) in
+put-decimal-requires : tie.Need-put-decimal-requires
+put-decimal-requires c κs =
+    let s = c .before .before .before .before .before .before .before in let p = put 5 (c .before .before .before .put-bytes .ensures) (lit≤ tt) in
     omega (arith, p .short, p .long, s .pre, byte-long (s .args .number) (s .fits .number .fits))
 
-put-count-requires-2 : tie.Need-put-count-requires-2
-put-count-requires-2 c κs =
+put-count-requires : tie.Need-put-count-requires
+put-count-requires c κs =
     let s = c .before .before .before .before .before .before .before .before .before .before .before in
-    let p = both (put 4 (c .before .before .before .before .before .before .before .put-bytes .ensures) (lit≤ tt))
-    (put-byte (s .args .number) (s .fits .number .fits) (c .before .before .before .put-count .ensures)) in
+    let p = both (put 5 (c .before .before .before .before .before .before .before .put-bytes .ensures) (lit≤ tt))
+    (put-byte (s .args .number) (s .fits .number .fits) (c .before .before .before .put-decimal .ensures)) in
     omega (arith, p .short, p .long, s .pre, length-field-pos (s .args .offset) (s .fits .offset .fits))
 
 put-end-requires : tie.Need-put-end-requires
 put-end-requires c κs =
     let s = c .before .before .before .before .before .before .before .before .before .before .before .before .before .before .before in
-    let p = both (put 4 (c .before .before .before .before .before .before .before .before .before .before .before .put-bytes .ensures) (lit≤ tt))
-    (both (put-byte (s .args .number) (s .fits .number .fits) (c .before .before .before .before .before .before .before .put-count .ensures))
-    (put-wide (s .args .offset) (s .fits .offset .fits) (c .before .before .before .put-count2 .ensures))) in
+    let p = both (put 5 (c .before .before .before .before .before .before .before .before .before .before .before .put-bytes .ensures) (lit≤ tt))
+    (both (put-byte (s .args .number) (s .fits .number .fits) (c .before .before .before .before .before .before .before .put-decimal .ensures))
+    (put-wide (s .args .offset) (s .fits .offset .fits) (c .before .before .before .put-count .ensures))) in
     omega (arith, p .short, p .long, s .pre)
 
 same-length : tie.Need-same-length
@@ -41,11 +41,11 @@ returns : tie.Need-returns
 unfolding line deckWord deckLine
 returns c =
     let s = c .before .before .before .before .before .before .before .before .before .before .before .before .before .before .before .before .before .before in
-    let p = both (put 4
+    let p = both (put 5
     (c .before .before .before .before .before .before .before .before .before .before .before .before .before .before .put-bytes .ensures) (lit≤ tt))
     (both (both (put-byte (s .args .number) (s .fits .number .fits)
-    (c .before .before .before .before .before .before .before .before .before .before .put-count .ensures))
-    (put-wide (s .args .offset) (s .fits .offset .fits) (c .before .before .before .before .before .before .put-count2 .ensures)))
+    (c .before .before .before .before .before .before .before .before .before .before .put-decimal .ensures))
+    (put-wide (s .args .offset) (s .fits .offset .fits) (c .before .before .before .before .before .before .put-count .ensures)))
     (put 1 (c .before .before .put-end .ensures) (lit≤ tt))) in
     (p .wrote, omega (arith, p .short))
 
@@ -55,8 +55,8 @@ put-deck-spec =
     (tie.spec
     slice-aggregate-put-bytes
     put-bytes-requires
+    put-decimal-requires
     put-count-requires
-    put-count-requires-2
     put-end-requires
     same-length
     returns)

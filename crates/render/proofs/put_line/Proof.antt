@@ -12,12 +12,12 @@ put-word-requires c κs = search needs
 
 put-answer-requires : tie.Need-put-answer-requires
 put-answer-requires c κs =
-    let p = put 8 (c .before .before .before .put-word .ensures) (word-long (c .before .before .before .before .before .before .args .order)) in omega
+    let p = put 9 (c .before .before .before .put-word .ensures) (word-long (c .before .before .before .before .before .before .args .order)) in omega
     (arith, p .short, p .long, c .before .before .before .before .before .before .pre)
 
 put-end-requires : tie.Need-put-end-requires
 put-end-requires c κs =
-    let p = put 8 (c .before .before .before .before .before .before .before .put-word .ensures)
+    let p = put 9 (c .before .before .before .before .before .before .before .put-word .ensures)
     (word-long (c .before .before .before .before .before .before .before .before .before .before .args .order)) in
     omega (
       arith,
@@ -36,7 +36,7 @@ same-length c = search needs
 returns : tie.Need-returns
 unfolding line orderLine
 returns c =
-    let p = put 8 (c .before .before .before .before .before .before .before .before .before .before .put-word .ensures)
+    let p = put 9 (c .before .before .before .before .before .before .before .before .before .before .put-word .ensures)
     (word-long (c .before .before .before .before .before .before .before .before .before .before .before .before .before .args .order)) in
     let q : Put _ _ _ _ _ _ = record {
       wrote = c .before .before .before .before .before .before .put-answer .ensures .0;

@@ -1,0 +1,72 @@
+-- What decks print, by computation; of the longest by laws. Assumes nothing.
+use mathlib.Core.Path.{refl}
+use native.Mathlib.Omega.{arith}
+use Rattle.decks.specs.Printed.{Called, Opened, Compared, Filled, Long, Printed}
+use Rattle.decks.proofs.Computing.{computed}
+use Rattle.decks.proofs.Many as Many
+
+called : Called
+unfolding computed
+called =
+    record {
+      worked = refl;
+      accepted = refl;
+      refused = refl;
+      no-pool = refl;
+      empty = refl;
+    }
+
+opened : Opened
+unfolding computed
+opened =
+    record {
+      most = refl;
+      least = refl;
+      coupon-missing = refl;
+      coupon-left = refl;
+      recovery-above = refl;
+      cut-flat = refl;
+      cut-above = refl;
+      hazard-above = refl;
+      discount-none = refl;
+      discount-above = refl;
+      accrual-none = refl;
+      accrual-above = refl;
+      coupon-above = refl;
+      index-coupon-above = refl;
+      first-of-all = refl;
+    }
+
+compared : Compared
+unfolding computed
+compared =
+    record {
+      largest = refl;
+      off-scale = refl;
+      flat = refl;
+    }
+
+filled : Filled
+unfolding computed
+filled =
+    record {
+      second-pool = refl;
+      cut-short-first = refl;
+      nine = refl;
+      one-cut-more = refl;
+      one-coupon-more = refl;
+      hazards = refl;
+      one-hazard-more = refl;
+    }
+
+long : Long
+long =
+    record {
+      steps = Many.steps _ (omega arith);
+      one-step-more = Many.one-step-more;
+      bytes = λ s h. Many.bytes s (omega arith);
+      one-byte-more = λ s h. Many.one-byte-more s (omega arith);
+    }
+
+pub printed : Printed
+printed = record { called = called; opened = opened; compared = compared; filled = filled; long = long }
