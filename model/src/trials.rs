@@ -1,24 +1,469 @@
 //! The trial entries that the engine's program `trials` runs, as the model
 //! answers them: one line an entry. The program's stored output is this text.
+//!
+//! Entries come as edges: one number of a trial runs through a few values
+//! that follow one another, so that each refusal stands beside what is just
+//! accepted. `tests/trials.rs` holds that no number can be moved unseen.
 
 use crate::refusal::Refusal;
-use crate::register::{self, LIVE};
+use crate::register::{self, LIVE, UNISSUED, WITHDRAWN};
 use crate::sheet::Sheet;
 use crate::walk::{self, row_length, Value, Walk};
-use crate::worked;
+use std::ops::RangeInclusive;
+
+/// Units in the whole pool.
+const B: u64 = 1_000_000_000;
+
+/// The number of the sheet.
+const NUMBER: u8 = 7;
+
+/// Room for the longest lists that are tried: the figures of a sheet are
+/// made for so many places and lent in part.
+const ROOM: usize = 3_652;
+
+/// Defines a struct of numbers, and a way to reach each of them.
+macro_rules! numbers {
+    ($(#[$about:meta])* $name:ident { $($(#[$said:meta])* $number:ident,)* }) => {
+        $(#[$about])*
+        #[derive(Clone, Copy, Debug, PartialEq, Eq)]
+        pub struct $name {
+            $($(#[$said])* pub $number: u64,)*
+        }
+
+        impl $name {
+            /// Each number with its name.
+            pub fn numbers(&mut self) -> Vec<(&'static str, &mut u64)> {
+                vec![$((stringify!($number), &mut self.$number)),*]
+            }
+
+            /// The same but for one number.
+            pub fn with(mut self, name: &str, value: u64) -> $name {
+                let mut numbers = self.numbers().into_iter();
+                *numbers.find(|(other, _)| *other == name).unwrap().1 = value;
+                self
+            }
+        }
+    };
+}
+
+numbers! {
+    /// Every number of a trial: what is lent, and what is asked.
+    Trial {
+        names,
+        steps,
+        tranches,
+        recovery,
+        /// Lengths; 0 stands for what the pool asks for.
+        attachments_lent,
+        hazards_lent,
+        discounts_lent,
+        accruals_lent,
+        coupons_lent,
+        register_lent,
+        defaults_lent,
+        premiums_lent,
+        row_lent,
+        /// The first three attachment points. The next ones stand one apart,
+        /// so that none of them can be moved.
+        lowest,
+        middle,
+        highest,
+        /// The first and third hazard, and all others.
+        hazard,
+        third_hazard,
+        other_hazards,
+        /// The first discount, and all others.
+        discount,
+        other_discounts,
+        /// The first and third accrual, and all others but the second, which is 0.
+        accrual,
+        third_accrual,
+        other_accruals,
+        /// The first and third coupon, and all others.
+        coupon,
+        third_coupon,
+        other_coupons,
+        /// The byte of the sheet's number.
+        byte,
+        /// 1: walk and rows are made up. Otherwise the walk is opened.
+        made_up,
+        /// 1: the made-up walk is open.
+        open,
+        number,
+        position,
+        /// Operands: steps back, tranche and count, steps forward.
+        back,
+        tranche,
+        count,
+        forward,
+        /// D of tranche 0 at the counts 0 and 1, of all of tranche 1, of the
+        /// index at the counts 0 and 1, and at the last.
+        own_default,
+        own_next_default,
+        other_defaults,
+        index_default,
+        index_next_default,
+        last_default,
+        /// A at the same places; tranche 1 and all other places alike.
+        own_premium,
+        own_next_premium,
+        other_premiums,
+        index_premium,
+        index_next_premium,
+        last_premium,
+    }
+}
+
+/// Two tranches on three names and three steps, walked from end to root.
+pub const WALKED: Trial = Trial {
+    names: 3,
+    steps: 3,
+    tranches: 2,
+    recovery: 400_000_001,
+    attachments_lent: 0,
+    hazards_lent: 0,
+    discounts_lent: 0,
+    accruals_lent: 0,
+    coupons_lent: 0,
+    register_lent: 256,
+    defaults_lent: 0,
+    premiums_lent: 0,
+    row_lent: 0,
+    lowest: 0,
+    middle: 300_000_000,
+    highest: 700_000_000,
+    hazard: 100_000_000,
+    third_hazard: 700_000_000,
+    other_hazards: 200_000_000,
+    discount: 950_000_000,
+    other_discounts: 990_000_000,
+    accrual: 250_000_000,
+    third_accrual: B,
+    other_accruals: 950_000_000,
+    coupon: 1_000_000,
+    third_coupon: 500_000,
+    other_coupons: 700_000,
+    byte: LIVE as u64,
+    made_up: 0,
+    open: 1,
+    number: NUMBER as u64,
+    position: 2,
+    back: 3,
+    tranche: 0,
+    count: 0,
+    forward: 3,
+    own_default: 200_000_999,
+    own_next_default: 1_000,
+    other_defaults: 3_000,
+    index_default: 200_001_999,
+    index_next_default: 2_000,
+    last_default: 0,
+    own_premium: 6_000_000,
+    own_next_premium: 5_000_000,
+    other_premiums: 7_000_000,
+    index_premium: 8_000_000,
+    index_next_premium: 5_000_000,
+    last_premium: 9_000_000,
+};
+
+/// The same sheet, with a walk and rows that the caller makes up, one step
+/// before the end.
+pub const MADE_UP: Trial = Trial {
+    made_up: 1,
+    back: 0,
+    ..WALKED
+};
+
+/// Jumps in whole units of a coupon: with these D, what a default pays makes
+/// up for what it ends, so a jump is A at count 0 less A at count 1.
+const JUMPS: Trial = Trial {
+    coupon: 1,
+    third_coupon: 1,
+    ..MADE_UP
+};
+
+/// Small hazards, so that the last of many steps still counts.
+const MANY_STEPS: Trial = Trial {
+    back: 3_650,
+    forward: 3_650,
+    hazard: 100_000,
+    third_hazard: 300_000,
+    other_hazards: 200_000,
+    other_discounts: 999_900_000,
+    other_accruals: 2_000_004,
+    tranche: 1,
+    ..WALKED
+};
+
+/// A number of a trial, and the values it takes in turn.
+pub struct Edge {
+    pub number: &'static str,
+    pub values: RangeInclusive<u64>,
+    pub start: Trial,
+}
+
+impl Edge {
+    /// The trial at a value.
+    pub fn at(&self, value: u64) -> Trial {
+        self.start.with(self.number, value)
+    }
+
+    /// The start of its lines: the number's name in words, and its value.
+    fn words(&self, value: u64) -> String {
+        format!("{:18} {value}", self.number.replace('_', " "))
+    }
+}
+
+fn edge(number: &'static str, values: RangeInclusive<u64>, start: Trial) -> Edge {
+    Edge {
+        number,
+        values,
+        start,
+    }
+}
+
+/// All edges, by the refusal that stands at them.
+pub fn edges() -> Vec<Edge> {
+    [
+        pool(),
+        lengths(),
+        figures(),
+        premiums(),
+        bytes(),
+        walks(),
+        default_ceilings(),
+        premium_ceilings(),
+        operands(),
+        scales(),
+        halves(),
+    ]
+    .into_iter()
+    .flatten()
+    .collect()
+}
+
+/// 1.
+fn pool() -> Vec<Edge> {
+    let high_count = Trial {
+        tranche: 1,
+        count: 124,
+        ..WALKED
+    };
+    let one_step = Trial {
+        back: 1,
+        forward: 1,
+        ..WALKED
+    };
+    // The index of one tranche, and of eight.
+    let first = Trial {
+        tranche: 1,
+        ..WALKED
+    };
+    let eighth = Trial {
+        tranche: 8,
+        ..WALKED
+    };
+    vec![
+        edge("names", 0..=1, WALKED),
+        edge("names", 125..=126, high_count),
+        edge("steps", 0..=1, one_step),
+        edge("steps", 3_650..=3_651, MANY_STEPS),
+        edge("tranches", 0..=1, first),
+        edge("tranches", 8..=9, eighth),
+    ]
+}
+
+/// 2: one fewer, right, one more.
+fn lengths() -> Vec<Edge> {
+    vec![
+        edge("attachments_lent", 2..=4, WALKED),
+        edge("hazards_lent", 2..=4, WALKED),
+        edge("discounts_lent", 2..=4, WALKED),
+        edge("accruals_lent", 2..=4, WALKED),
+        edge("coupons_lent", 2..=4, WALKED),
+        edge("register_lent", 255..=257, WALKED),
+        edge("defaults_lent", 11..=13, WALKED),
+        edge("premiums_lent", 11..=13, WALKED),
+        edge("row_lent", 3..=5, WALKED),
+    ]
+}
+
+/// 3 to 6.
+fn figures() -> Vec<Edge> {
+    let sure = Trial {
+        other_hazards: B,
+        ..WALKED
+    };
+    let all_sure = Trial { hazard: B, ..sure };
+    let second = Trial {
+        tranche: 1,
+        ..WALKED
+    };
+    let index = Trial {
+        tranche: 2,
+        ..WALKED
+    };
+    let late = Trial { count: 2, ..index };
+    vec![
+        edge("recovery", B..=B + 1, late),
+        edge("lowest", 299_999_999..=300_000_000, WALKED),
+        edge("middle", 0..=1, WALKED),
+        edge("middle", 699_999_999..=700_000_000, second),
+        edge("highest", B..=B + 1, second),
+        edge("hazard", B..=B + 1, sure),
+        edge("third_hazard", B..=B + 1, all_sure),
+        edge("discount", 0..=1, index),
+        edge("discount", B..=B + 1, index),
+    ]
+}
+
+/// 7 and 8.
+fn premiums() -> Vec<Edge> {
+    let index = Trial {
+        tranche: 2,
+        ..WALKED
+    };
+    // Ten times B but for 450,000,000, besides the first accrual.
+    let full = Trial {
+        steps: 12,
+        back: 12,
+        ..index
+    };
+    vec![
+        edge("accrual", B..=B + 1, index),
+        edge("accrual", 450_000_000..=450_000_001, full),
+        edge("third_accrual", 0..=1, index),
+        edge("coupon", 10_000_000..=10_000_001, WALKED),
+        edge("third_coupon", 10_000_000..=10_000_001, index),
+    ]
+}
+
+/// 9 and 10.
+fn bytes() -> Vec<Edge> {
+    let byte = |values| edge("byte", values, WALKED);
+    vec![byte(0x00..=0x00), byte(0xA4..=0xA6), byte(0xFE..=0xFF)]
+}
+
+/// 11.
+fn walks() -> Vec<Edge> {
+    let end = Trial {
+        back: 1,
+        own_premium: 0,
+        own_next_premium: 0,
+        other_premiums: 0,
+        index_premium: 0,
+        index_next_premium: 0,
+        last_premium: 0,
+        ..MADE_UP
+    };
+    vec![
+        edge("open", 0..=1, MADE_UP),
+        edge("number", 6..=8, MADE_UP),
+        edge("position", 3..=4, end),
+    ]
+}
+
+/// The made-up rows asked at the next count of tranche 0, and at the first,
+/// the next and the last count of the index.
+fn made_up_nodes() -> [Trial; 4] {
+    let asked = |tranche, count| Trial {
+        tranche,
+        count,
+        ..MADE_UP
+    };
+    [asked(0, 1), asked(2, 0), asked(2, 1), asked(2, 3)]
+}
+
+/// 12 for D: the width less what is lost.
+fn default_ceilings() -> Vec<Edge> {
+    let [next, index, index_next, last] = made_up_nodes();
+    vec![
+        edge("own_default", 300_000_000..=300_000_001, MADE_UP),
+        edge("own_next_default", 100_000_001..=100_000_002, next),
+        edge("index_default", 599_999_999..=600_000_000, index),
+        edge("index_next_default", 400_000_000..=400_000_001, index_next),
+        edge("last_default", 0..=1, last),
+    ]
+}
+
+/// 12 for A: the accruals to come.
+fn premium_ceilings() -> Vec<Edge> {
+    let root = Trial {
+        position: 0,
+        ..MADE_UP
+    };
+    let [next, index, index_next, last] = made_up_nodes();
+    vec![
+        edge("own_premium", B..=B + 1, MADE_UP),
+        edge("own_premium", 1_250_000_000..=1_250_000_001, root),
+        edge("own_next_premium", B..=B + 1, next),
+        edge("index_premium", B..=B + 1, index),
+        edge("index_next_premium", B..=B + 1, index_next),
+        edge("last_premium", B..=B + 1, last),
+    ]
+}
+
+/// 13 and 14.
+fn operands() -> Vec<Edge> {
+    let second = Trial {
+        tranche: 1,
+        ..MADE_UP
+    };
+    vec![
+        edge("back", 0..=3, MADE_UP),
+        edge("forward", 0..=1, WALKED),
+        edge("forward", 3..=4, WALKED),
+        edge("tranche", 2..=3, MADE_UP),
+        edge("count", 2..=4, second),
+    ]
+}
+
+/// A tranche whose jump is `own`, beside an index whose jump is `index`.
+fn jumps(own: i64, index: i64) -> Trial {
+    let moved = |from: u64, by: i64| from.checked_add_signed(by).unwrap();
+    Trial {
+        own_premium: moved(JUMPS.own_next_premium, own),
+        index_premium: moved(JUMPS.index_next_premium, index),
+        ..JUMPS
+    }
+}
+
+/// 15 and 16, for jumps of either sign.
+fn scales() -> Vec<Edge> {
+    let own = |values, index| edge("own_premium", values, jumps(0, index));
+    vec![
+        edge("index_premium", 4_999_999..=5_000_001, jumps(999_999, 0)),
+        own(5_999_999..=6_000_000, 1),
+        own(5_999_999..=6_000_000, -1),
+        own(4_000_000..=4_000_001, 1),
+        own(4_000_000..=4_000_001, -1),
+    ]
+}
+
+/// Halves of a millionth go away from zero.
+fn halves() -> Vec<Edge> {
+    let index = |values, own| edge("index_premium", values, jumps(own, 0));
+    vec![
+        index(7_000_000..=7_000_001, 1),
+        index(7_000_000..=7_000_001, 3),
+        index(7_000_000..=7_000_001, -1),
+        index(7_000_000..=7_000_001, -3),
+        index(2_999_999..=3_000_000, 1),
+        index(2_999_999..=3_000_000, -1),
+    ]
+}
 
 /// All lines.
 pub fn listing() -> String {
-    let parts = [
-        at_limits(),
-        no_walk(),
-        soiled(),
-        operands(),
-        ratios(),
-        register_calls(),
-    ];
-    let mut text = parts.concat().join("\n");
-    text.push('\n');
+    let mut text = String::new();
+    for edge in edges() {
+        for value in edge.values.clone() {
+            let answers = answers(&edge.at(value));
+            text.push_str(&format!("{}{answers}\n", edge.words(value)));
+        }
+    }
+    text.push_str(&register_lines());
+    text.push_str(&cut_lines());
     text
 }
 
@@ -33,230 +478,164 @@ fn field(word: &str, answer: Result<Vec<i128>, Refusal>) -> String {
     }
 }
 
-fn figures(value: Value) -> Vec<i128> {
+fn value_figures(value: Value) -> Vec<i128> {
     vec![value.default as i128, value.premium as i128, value.net]
 }
 
-/// n, m, v and a coupon at both sides of their limits.
-fn at_limits() -> Vec<String> {
-    vec![
-        all_calls("names 125", limit_sheet(125, 40, 999_900_000, 500_000)),
-        all_calls("names 126", limit_sheet(126, 40, 999_900_000, 500_000)),
-        all_calls("steps 3650", limit_sheet(5, 3_650, 999_900_000, 500_000)),
-        all_calls("steps 3651", limit_sheet(5, 3_651, 999_900_000, 500_000)),
-        all_calls("discount 1", limit_sheet(5, 12, 1, 500_000)),
-        all_calls("discount 0", limit_sheet(5, 12, 0, 500_000)),
-        all_calls(
-            "coupon 10000000",
-            limit_sheet(5, 12, 999_900_000, 10_000_000),
-        ),
-        all_calls(
-            "coupon 10000001",
-            limit_sheet(5, 12, 999_900_000, 10_000_001),
-        ),
-    ]
+/// Open unless the walk is made up, then back, value, ratio and forward, in
+/// one line.
+pub fn answers(trial: &Trial) -> String {
+    let sheet = sheet(trial);
+    let mut register = vec![WITHDRAWN; trial.register_lent as usize];
+    register[usize::from(NUMBER)] = trial.byte as u8;
+    let (mut d, mut a) = rows(trial, &sheet);
+    let mut line = String::new();
+    let mut walk = Walk::fresh();
+    if trial.made_up == 1 {
+        walk = Walk {
+            open: trial.open == 1,
+            number: trial.number as u8,
+            position: trial.position as usize,
+        };
+    } else {
+        let (opened, open) = walk::open(walk, &sheet, &register, &mut d, &mut a);
+        walk = opened;
+        line.push_str(&field("open", open.map(|()| vec![])));
+    }
+    let steps = trial.back as usize;
+    let (walk, back) = walk::back(walk, &sheet, &register, steps, &mut d, &mut a);
+    let (tranche, count) = (trial.tranche as usize, trial.count as usize);
+    let (walk, value) = walk::value(walk, &sheet, &register, tranche, count, &d, &a);
+    let (_, ratio) = walk::hedge_ratio(walk, &sheet, &register, tranche, count, &d, &a);
+    line.push_str(&field("back", back.map(|position| vec![position as i128])));
+    line.push_str(&field("value", value.map(value_figures)));
+    line.push_str(&field("ratio", ratio.map(|ratio| vec![ratio])));
+    line.push_str(&forward(trial, &sheet, &register));
+    line
 }
 
-fn limit_sheet(names: usize, steps: usize, discount: u64, coupon: u64) -> Sheet {
-    let mut discounts = vec![999_900_000; steps];
-    discounts[0] = discount;
-    Sheet {
-        number: 1,
-        names,
-        steps,
-        tranches: 2,
-        recovery: 400_000_000,
-        attachments: vec![0, 30_000_000, 60_000_000],
-        hazards: vec![1_000_000; names],
-        discounts,
-        accruals: vec![2_000_000; steps],
-        coupons: vec![coupon, 501_000, 502_000],
+/// Forward with Q(0), Q(1) and Q(n), on a row that is not zero.
+fn forward(trial: &Trial, sheet: &Sheet, register: &[u8]) -> String {
+    let mut row = vec![7; length(trial.row_lent, sheet.names + 1)];
+    let answer = walk::forward(sheet, register, trial.forward as usize, &mut row);
+    let figures = |()| {
+        [0, 1, sheet.names]
+            .map(|count| i128::from(row[count]))
+            .to_vec()
+    };
+    field("forward", answer.map(figures))
+}
+
+/// A length as told, or the right one.
+fn length(told: u64, right: usize) -> usize {
+    if told == 0 {
+        right
+    } else {
+        told as usize
     }
 }
 
-/// Open, back to the root, value and ratio of tranche 0 at count 0, and
-/// forward to the end.
-fn all_calls(name: &str, sheet: Sheet) -> String {
-    let register = vec![LIVE; 256];
-    let length = row_length(&sheet);
-    let (mut d, mut a) = (vec![0; length], vec![0; length]);
-    let mut row = vec![0; sheet.names + 1];
-    let (walk, open) = walk::open(Walk::fresh(), &sheet, &register, &mut d, &mut a);
-    let (walk, back) = walk::back(walk, &sheet, &register, sheet.steps, &mut d, &mut a);
-    let (_, value) = walk::value(walk, &sheet, &register, 0, 0, &d, &a);
-    let (_, ratio) = walk::hedge_ratio(walk, &sheet, &register, 0, 0, &d, &a);
-    let forward = walk::forward(&sheet, &register, sheet.steps, &mut row);
-    [
-        name.to_string(),
-        field("open", open.map(|()| vec![])),
-        field("back", back.map(|position| vec![position as i128])),
-        field("value", value.map(figures)),
-        field("ratio", ratio.map(|ratio| vec![ratio])),
-        field("forward", forward.map(|()| vec![i128::from(row[0])])),
-    ]
-    .concat()
-}
-
-/// What an entry on the worked sheet lends and asks. D stands at count 0,
-/// A at count 1; all else is 0.
-#[derive(Clone, Copy)]
-struct Lent {
-    walk: Walk,
-    own_default: u64,
-    own_premium: u64,
-    index_default: u64,
-    index_premium: u64,
-    tranche: usize,
-    count: usize,
-    steps: usize,
-}
-
-/// An open walk one step from the root, and operands within their limits.
-const PLAIN: Lent = Lent {
-    walk: Walk {
-        open: true,
-        number: 7,
-        position: 1,
-    },
-    own_default: 0,
-    own_premium: 0,
-    index_default: 0,
-    index_premium: 0,
-    tranche: 0,
-    count: 0,
-    steps: 1,
-};
-
-/// Value, ratio and back on lent rows.
-fn lent(name: &str, lent: Lent) -> String {
-    let sheet = worked::sheet();
-    let register = vec![LIVE; 256];
-    let (walk, tranche, count) = (lent.walk, lent.tranche, lent.count);
-    let mut d = vec![lent.own_default, 0, 0, lent.index_default, 0, 0];
-    let mut a = vec![0, lent.own_premium, 0, 0, lent.index_premium, 0];
-    let (_, value) = walk::value(walk, &sheet, &register, tranche, count, &d, &a);
-    let (_, ratio) = walk::hedge_ratio(walk, &sheet, &register, tranche, count, &d, &a);
-    let (_, back) = walk::back(walk, &sheet, &register, lent.steps, &mut d, &mut a);
-    [
-        name.to_string(),
-        field("value", value.map(figures)),
-        field("ratio", ratio.map(|ratio| vec![ratio])),
-        field("back", back.map(|position| vec![position as i128])),
-    ]
-    .concat()
-}
-
-fn with_walk(name: &str, open: bool, number: u8, position: usize) -> String {
-    let walk = Walk {
-        open,
-        number,
-        position,
-    };
-    lent(name, Lent { walk, ..PLAIN })
-}
-
-/// 11.
-fn no_walk() -> Vec<String> {
-    vec![
-        with_walk("closed", false, 7, 1),
-        with_walk("other number", true, 8, 1),
-        with_walk("position above m", true, 7, 3),
-    ]
-}
-
-fn with_rows(name: &str, own: (u64, u64), index: (u64, u64)) -> String {
-    let rows = Lent {
-        own_default: own.0,
-        own_premium: own.1,
-        index_default: index.0,
-        index_premium: index.1,
-        ..PLAIN
-    };
-    lent(name, rows)
-}
-
-/// 12: at a ceiling and over it.
-fn soiled() -> Vec<String> {
-    vec![
-        with_rows("default at its ceiling", (300_000_000, 0), (0, 0)),
-        with_rows("default over its ceiling", (300_000_001, 0), (0, 0)),
-        with_rows("premium at its ceiling", (0, 1_000_000_000), (0, 0)),
-        with_rows("premium over its ceiling", (0, 1_000_000_001), (0, 0)),
-        with_rows("index at its ceiling", (0, 0), (600_000_000, 0)),
-        with_rows("index over its ceiling", (0, 0), (600_000_001, 0)),
-        with_rows("index premium over", (0, 0), (0, 1_000_000_001)),
-    ]
-}
-
-fn asked(name: &str, tranche: usize, count: usize, steps: usize) -> String {
-    let operands = Lent {
-        tranche,
-        count,
+fn sheet(trial: &Trial) -> Sheet {
+    let (names, steps) = (trial.names as usize, trial.steps as usize);
+    let tranches = trial.tranches as usize;
+    let mut attachments = vec![trial.lowest, trial.middle, trial.highest];
+    attachments.extend(700_000_001..=700_000_009);
+    attachments.truncate(length(trial.attachments_lent, tranches + 1));
+    Sheet {
+        number: NUMBER,
+        names,
         steps,
-        ..PLAIN
-    };
-    lent(name, operands)
-}
-
-/// Forward by so many steps, with Q(0).
-fn spread(name: &str, steps: usize) -> String {
-    let mut row = vec![7; 3];
-    let answer = walk::forward(&worked::sheet(), &[LIVE; 256], steps, &mut row);
-    let answer = field("forward", answer.map(|()| vec![i128::from(row[0])]));
-    format!("{name}{answer}")
-}
-
-/// 13 and 14.
-fn operands() -> Vec<String> {
-    vec![
-        asked("back by 0", 0, 0, 0),
-        asked("back beyond the root", 0, 0, 2),
-        asked("index", 1, 0, 1),
-        asked("no such tranche", 2, 0, 1),
-        asked("last count", 0, 2, 1),
-        asked("no such count", 0, 3, 1),
-        spread("forward to the end", 2),
-        spread("forward beyond the end", 3),
-    ]
-}
-
-/// 15, 16 and the rounding of ratios of either sign.
-fn ratios() -> Vec<String> {
-    vec![
-        with_rows("flat", (0, 0), (300_000_000, 0)),
-        with_rows("off scale", (299_000_000, 0), (299_999_999, 0)),
-        with_rows("just on scale", (299_000_001, 0), (299_999_999, 0)),
-        with_rows("half", (299_999_999, 0), (298_000_000, 0)),
-        with_rows("below a half", (299_999_999, 0), (297_999_999, 0)),
-        with_rows("three halves", (299_999_997, 0), (298_000_000, 0)),
-        with_rows("minus half", (300_000_000, 10), (298_000_000, 0)),
-        with_rows("above minus half", (300_000_000, 10), (297_999_999, 0)),
-        with_rows("minus three halves", (300_000_000, 30), (298_000_000, 0)),
-        with_rows("index falls", (299_999_999, 0), (302_000_000, 0)),
-        with_rows("both fall", (300_000_000, 10), (302_000_000, 0)),
-        with_rows(
-            "minus off scale",
-            (300_000_000, 10_000_000),
-            (299_999_999, 0),
+        tranches,
+        recovery: trial.recovery,
+        attachments,
+        hazards: list(
+            trial.other_hazards,
+            [Some(trial.hazard), None, Some(trial.third_hazard)],
+            length(trial.hazards_lent, names),
         ),
-    ]
+        discounts: list(
+            trial.other_discounts,
+            [Some(trial.discount), None, None],
+            length(trial.discounts_lent, steps),
+        ),
+        accruals: list(
+            trial.other_accruals,
+            [Some(trial.accrual), Some(0), Some(trial.third_accrual)],
+            length(trial.accruals_lent, steps),
+        ),
+        coupons: list(
+            trial.other_coupons,
+            [Some(trial.coupon), None, Some(trial.third_coupon)],
+            length(trial.coupons_lent, tranches + 1),
+        ),
+    }
 }
 
-/// 9, 10 and 17: a number's life in the register.
-fn register_calls() -> Vec<String> {
-    let mut register = register::blank();
-    let mut short = vec![register::UNISSUED; 255];
-    let line = |name: &str, answer: Result<(), Refusal>| {
-        let number = answer.err().map_or(0, Refusal::number);
-        format!("{name} {number}")
+/// One figure throughout, but for some of the first three places.
+fn list(others: u64, first: [Option<u64>; 3], length: usize) -> Vec<u64> {
+    let mut list = vec![others; ROOM];
+    for (place, figure) in list.iter_mut().zip(first) {
+        *place = figure.unwrap_or(others);
+    }
+    list.truncate(length);
+    list
+}
+
+/// The lent rows; a made-up walk takes them as they are.
+fn rows(trial: &Trial, sheet: &Sheet) -> (Vec<u64>, Vec<u64>) {
+    let (f, g) = (trial.other_defaults, trial.other_premiums);
+    let mut d = vec![0; ROOM];
+    let mut a = vec![g; ROOM];
+    d[..4].copy_from_slice(&[trial.own_default, trial.own_next_default, 0, 0]);
+    d[4..8].fill(f);
+    d[8..10].copy_from_slice(&[trial.index_default, trial.index_next_default]);
+    d[11] = trial.last_default;
+    a[..2].copy_from_slice(&[trial.own_premium, trial.own_next_premium]);
+    a[8..10].copy_from_slice(&[trial.index_premium, trial.index_next_premium]);
+    a[11] = trial.last_premium;
+    d.truncate(length(trial.defaults_lent, row_length(sheet)));
+    a.truncate(length(trial.premiums_lent, row_length(sheet)));
+    (d, a)
+}
+
+/// 2, 9, 10 and 17: issue and withdraw, with the byte that each leaves.
+fn register_lines() -> String {
+    let mut text = String::new();
+    let mut line = |word: &str, value: u64, length: usize, issued: u8, withdrawn: u8| {
+        let mut register = vec![WITHDRAWN; length];
+        register[usize::from(NUMBER)] = issued;
+        let issue = register::issue(&mut register, NUMBER);
+        let after_issue = register[usize::from(NUMBER)];
+        register[usize::from(NUMBER)] = withdrawn;
+        let withdraw = register::withdraw(&mut register, NUMBER);
+        let after_withdraw = register[usize::from(NUMBER)];
+        let number = |answer: Result<(), Refusal>| answer.err().map_or(0, Refusal::number);
+        let (issue, withdraw) = (number(issue), number(withdraw));
+        text.push_str(&format!(
+            "{word:18} {value} issue {issue} {after_issue} withdraw {withdraw} {after_withdraw}\n"
+        ));
     };
-    vec![
-        line("withdraw unissued", register::withdraw(&mut register, 7)),
-        line("issue", register::issue(&mut register, 7)),
-        line("issue live", register::issue(&mut register, 7)),
-        line("withdraw", register::withdraw(&mut register, 7)),
-        line("withdraw again", register::withdraw(&mut register, 7)),
-        line("issue withdrawn", register::issue(&mut register, 7)),
-        line("short register", register::issue(&mut short, 7)),
-    ]
+    for length in 255..=257 {
+        line("register lent", length as u64, length, UNISSUED, LIVE);
+    }
+    for byte in [0x00, 0xA4, 0xA5, 0xA6, 0xFE, 0xFF] {
+        line("byte", u64::from(byte), 256, byte, byte);
+    }
+    text
+}
+
+/// What a cut write may leave: 1 where it may.
+fn cut_lines() -> String {
+    let mut text = String::new();
+    let mut line = |old: u8, new: u8, found: u8| {
+        let may = u8::from(register::cut_write(old, new).contains(&found));
+        text.push_str(&format!("left {old} {new} {found} {may}\n"));
+    };
+    for found in [0x84, LIVE, WITHDRAWN, UNISSUED, 0x02] {
+        line(LIVE, WITHDRAWN, found);
+    }
+    for found in [0xAD, UNISSUED, LIVE, 0x21, WITHDRAWN] {
+        line(UNISSUED, LIVE, found);
+    }
+    text
 }

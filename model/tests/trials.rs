@@ -1,7 +1,9 @@
 //! The stored output of the engine's program `trials` is what the model
-//! gives. The engine's own gate holds the program to that file.
+//! gives. The engine's own gate holds the program to that file. A number of
+//! a trial that could be moved by one with no line changed is found here.
 
-use lavroudem_model::trials::listing;
+use lavroudem_model::refusal::Refusal;
+use lavroudem_model::trials::{answers, edges, listing, Edge, Trial, WALKED};
 use std::path::Path;
 
 #[test]
@@ -11,30 +13,193 @@ fn stored_output_is_the_models() {
     assert_eq!(stored, listing());
 }
 
-/// What the names of the lines promise.
-#[test]
-fn lines_are_what_they_say() {
-    let listing = listing();
-    let ratio = |name: &str| {
-        let line = listing.lines().find(|line| line.starts_with(name)).unwrap();
-        let field = line.split(" ratio ").nth(1).unwrap();
-        field.split(" back").next().unwrap().to_string()
+/// A number one up and one down, where there is one.
+fn moved(number: u64) -> Vec<u64> {
+    [number.checked_sub(1), number.checked_add(1)]
+        .into_iter()
+        .flatten()
+        .collect()
+}
+
+/// Whether the lines have the value, on the same trial but for it. Bytes go
+/// round.
+fn is_tried(edge: &Edge, value: u64) -> bool {
+    let value = if edge.number == "byte" {
+        value % 256
+    } else {
+        value
     };
-    assert_eq!(ratio("flat "), "15");
-    assert_eq!(ratio("off scale "), "16");
-    assert_eq!(ratio("just on scale "), "0 999999000000");
-    assert_eq!(ratio("half "), "0 1");
-    assert_eq!(ratio("below a half "), "0 0");
-    assert_eq!(ratio("three halves "), "0 2");
-    assert_eq!(ratio("minus half "), "0 -1");
-    assert_eq!(ratio("above minus half "), "0 0");
-    assert_eq!(ratio("minus three halves "), "0 -2");
-    assert_eq!(ratio("index falls "), "0 -1");
-    assert_eq!(ratio("both fall "), "0 1");
-    assert_eq!(ratio("minus off scale "), "16");
-    assert_eq!(ratio("last count "), "14");
-    assert_eq!(ratio("default over "), "12");
-    assert_eq!(ratio("closed "), "11");
-    assert!(listing.contains("forward to the end forward 0 810000000\n"));
-    assert!(listing.contains("forward beyond the end forward 13\n"));
+    edges().iter().any(|other| {
+        let same = other.number == edge.number && other.start == edge.start;
+        same && other.values.contains(&value)
+    })
+}
+
+/// The numbers that the calls of a line answer.
+fn numbers_answered(line: &str) -> Vec<&str> {
+    let calls = [
+        "open", "back", "value", "ratio", "forward", "issue", "withdraw",
+    ];
+    let words: Vec<&str> = line.split(' ').collect();
+    let answered = words.windows(2).filter(|pair| calls.contains(&pair[0]));
+    answered.map(|pair| pair[1]).collect()
+}
+
+/// A value that an edge takes answers otherwise when it is moved; or it is
+/// the last that answers so, and the next one is tried too. What is accepted
+/// beside a refusal has to answer otherwise.
+#[test]
+fn values_stand_at_their_edge() {
+    let is_refused = |line: &str| numbers_answered(line).iter().any(|&number| number != "0");
+    for edge in edges() {
+        for value in edge.values.clone() {
+            let here = answers(&edge.at(value));
+            for other in moved(value) {
+                if answers(&edge.at(other)) != here {
+                    continue;
+                }
+                let next = value.wrapping_mul(2).wrapping_sub(other);
+                let there = answers(&edge.at(next));
+                let last = is_tried(&edge, next) && there != here;
+                let figure = is_refused(&here) || !is_refused(&there);
+                assert!(last && figure, "{} {value} as {other}:{here}", edge.number);
+            }
+        }
+    }
+}
+
+/// A number is tried both where a call is refused and where it is not, or
+/// refused otherwise. Only for the rounding of ratios all is accepted.
+#[test]
+fn edges_have_two_sides() {
+    let edges = edges();
+    for edge in edges.iter().filter(|edge| edge.start.coupon != 1) {
+        let same = |other: &&Edge| other.number == edge.number && other.start == edge.start;
+        let values = edges
+            .iter()
+            .filter(same)
+            .flat_map(|other| other.values.clone());
+        let lines: Vec<String> = values.map(|value| answers(&edge.at(value))).collect();
+        let differs = |line: &String| numbers_answered(line) != numbers_answered(&lines[0]);
+        assert!(
+            lines.iter().any(differs),
+            "{} {:?}",
+            edge.number,
+            edge.values
+        );
+    }
+}
+
+/// The numbers of a trial with their names.
+fn numbers(mut trial: Trial) -> Vec<(&'static str, u64)> {
+    let numbers = trial.numbers().into_iter();
+    numbers.map(|(name, number)| (name, *number)).collect()
+}
+
+/// All answers of an edge whose trials start with another number.
+fn lines(edge: &Edge, name: &str, number: u64) -> Vec<String> {
+    let start = edge.start.with(name, number);
+    let line = |value| answers(&start.with(edge.number, value));
+    edge.values.clone().map(line).collect()
+}
+
+/// What an edge changes of the plain trial is seen in its own lines.
+#[test]
+fn numbers_of_an_edge_are_seen() {
+    for edge in edges() {
+        for (plain, (name, number)) in numbers(WALKED).into_iter().zip(numbers(edge.start)) {
+            if name == edge.number || number == plain.1 {
+                continue;
+            }
+            let usual = lines(&edge, name, number);
+            for other in moved(number) {
+                let seen = lines(&edge, name, other) != usual;
+                assert!(seen, "{} {:?}: {name} {other}", edge.number, edge.values);
+            }
+        }
+    }
+}
+
+/// Each number of the plain trial is seen in the lines of some edge that
+/// leaves it as it is.
+#[test]
+fn numbers_of_the_plain_trial_are_seen() {
+    let edges = edges();
+    for (name, number) in numbers(WALKED) {
+        for other in moved(number) {
+            let seen = edges.iter().any(|edge| {
+                let same = edge.start.with(name, number) == edge.start;
+                same && lines(edge, name, other) != lines(edge, name, number)
+            });
+            assert!(seen, "{name} {other}");
+        }
+    }
+}
+
+/// Every refusal that a call of the library can meet is among the lines.
+#[test]
+fn every_refusal_is_tried() {
+    let listing = listing();
+    let answered: Vec<&str> = listing.lines().flat_map(numbers_answered).collect();
+    for refusal in &Refusal::ALL[..17] {
+        let number = refusal.number().to_string();
+        assert!(answered.contains(&number.as_str()), "{refusal:?}");
+    }
+}
+
+/// The ratios at 15 and 16, and of halves, for jumps of either sign.
+#[test]
+fn ratios_are_what_they_should_be() {
+    let of = |start: Trial, number: &str, value: u64| {
+        let line = answers(&start.with(number, value));
+        let field = line.split(" ratio ").nth(1).unwrap();
+        field.split(" forward ").next().unwrap().to_string()
+    };
+    let jumps = edges().into_iter().filter(|edge| edge.start.coupon == 1);
+    let ratios: Vec<String> = jumps
+        .flat_map(|edge| {
+            edge.values
+                .clone()
+                .map(move |value| of(edge.start, edge.number, value))
+        })
+        .collect();
+    let (scales, halves) = ratios.split_at(11);
+    let big = "0 999999000000";
+    let small = "0 -999999000000";
+    assert_eq!(scales[..3], [small, "15", big]);
+    assert_eq!(scales[3..7], [big, "16", small, "16"]);
+    assert_eq!(scales[7..], ["16", small, "16", big]);
+    assert_eq!(
+        halves[..8],
+        ["0 1", "0 0", "0 2", "0 1", "0 -1", "0 0", "0 -2", "0 -1"]
+    );
+    assert_eq!(halves[8..], ["0 0", "0 -1", "0 0", "0 1"]);
+}
+
+/// Issue and withdraw at the length and the bytes of document 01, with the
+/// byte that each leaves; and what a cut write of new over old may leave.
+#[test]
+fn register_lines_are_what_they_should_be() {
+    let expected = "
+register lent      255 issue 2 255 withdraw 2 165
+register lent      256 issue 0 165 withdraw 0 0
+register lent      257 issue 2 255 withdraw 2 165
+byte               0 issue 9 0 withdraw 9 0
+byte               164 issue 9 164 withdraw 9 164
+byte               165 issue 17 165 withdraw 0 0
+byte               166 issue 9 166 withdraw 9 166
+byte               254 issue 9 254 withdraw 9 254
+byte               255 issue 0 165 withdraw 10 255
+left 165 0 132 1
+left 165 0 165 1
+left 165 0 0 1
+left 165 0 255 0
+left 165 0 2 0
+left 255 165 173 1
+left 255 165 255 1
+left 255 165 165 1
+left 255 165 33 0
+left 255 165 0 0
+";
+    assert!(listing().ends_with(expected));
 }

@@ -1,11 +1,113 @@
-// Calls that print what they answer: the number, and the values if it is 0.
+// The calls on what a trial lends, each handing its walk to the next. They print the number that is answered, and the figures if it is 0.
+use crate::at;
+use crate::at::Trial;
 use crate::print;
 use export::Pool;
 use export::Walk;
 
-pub fn open(
-    held: Walk,
-    pool: Pool,
+fn pool(trial: Trial) -> Pool {
+    Pool {
+        names: at::size(trial, at::NAMES),
+        steps: at::size(trial, at::STEPS),
+        tranches: at::size(trial, at::TRANCHES),
+        recovery: trial[at::RECOVERY],
+        number: 7,
+    }
+}
+
+fn fresh() -> Walk {
+    Walk {
+        open: false,
+        number: 0,
+        position: 0,
+    }
+}
+
+// The walk that a trial holds.
+fn held(trial: Trial) -> Walk {
+    Walk {
+        open: trial[at::OPEN] == 1,
+        number: print::byte(trial[at::NUMBER]),
+        position: at::size(trial, at::POSITION),
+    }
+}
+
+// The trial with the walk that a call handed back.
+fn holding(trial: Trial, walk: Walk) -> Trial {
+    let open = at::with(trial, at::OPEN, walk.open as u64);
+    let number = at::with(open, at::NUMBER, walk.number as u64);
+    at::with(number, at::POSITION, walk.position as u64)
+}
+
+fn ratio(
+    trial: Trial,
+    attachments: &[u64],
+    hazards: &[u64],
+    discounts: &[u64],
+    accruals: &[u64],
+    coupons: &[u64],
+    register: &[u8],
+    defaults: &[u64],
+    premiums: &[u64],
+) {
+    let r = export::lavroudem_hedge_ratio(
+        held(trial),
+        pool(trial),
+        attachments,
+        hazards,
+        discounts,
+        accruals,
+        coupons,
+        register,
+        defaults,
+        premiums,
+        at::size(trial, at::TRANCHE),
+        at::size(trial, at::COUNT),
+    );
+    print::hedged(r);
+}
+
+fn value(
+    trial: Trial,
+    attachments: &[u64],
+    hazards: &[u64],
+    discounts: &[u64],
+    accruals: &[u64],
+    coupons: &[u64],
+    register: &[u8],
+    defaults: &[u64],
+    premiums: &[u64],
+) {
+    let r = export::lavroudem_value(
+        held(trial),
+        pool(trial),
+        attachments,
+        hazards,
+        discounts,
+        accruals,
+        coupons,
+        register,
+        defaults,
+        premiums,
+        at::size(trial, at::TRANCHE),
+        at::size(trial, at::COUNT),
+    );
+    print::valued(r);
+    ratio(
+        holding(trial, r.walk),
+        attachments,
+        hazards,
+        discounts,
+        accruals,
+        coupons,
+        register,
+        defaults,
+        premiums,
+    );
+}
+
+fn back(
+    trial: Trial,
     attachments: &[u64],
     hazards: &[u64],
     discounts: &[u64],
@@ -14,10 +116,48 @@ pub fn open(
     register: &[u8],
     defaults: &mut [u64],
     premiums: &mut [u64],
-) -> Walk {
+) {
+    let r = export::lavroudem_back(
+        held(trial),
+        pool(trial),
+        attachments,
+        hazards,
+        discounts,
+        accruals,
+        coupons,
+        register,
+        defaults,
+        premiums,
+        at::size(trial, at::BACK),
+    );
+    print::moved(r);
+    value(
+        holding(trial, r.walk),
+        attachments,
+        hazards,
+        discounts,
+        accruals,
+        coupons,
+        register,
+        defaults,
+        premiums,
+    );
+}
+
+fn open(
+    trial: Trial,
+    attachments: &[u64],
+    hazards: &[u64],
+    discounts: &[u64],
+    accruals: &[u64],
+    coupons: &[u64],
+    register: &[u8],
+    defaults: &mut [u64],
+    premiums: &mut [u64],
+) {
     let r = export::lavroudem_open(
-        held,
-        pool,
+        fresh(),
+        pool(trial),
         attachments,
         hazards,
         discounts,
@@ -28,12 +168,22 @@ pub fn open(
         premiums,
     );
     print::answer(b" open", r.number);
-    r.walk
+    back(
+        holding(trial, r.walk),
+        attachments,
+        hazards,
+        discounts,
+        accruals,
+        coupons,
+        register,
+        defaults,
+        premiums,
+    );
 }
 
-pub fn back(
-    held: Walk,
-    pool: Pool,
+// Open unless the walk is made up, back, value and ratio.
+pub fn walk(
+    trial: Trial,
     attachments: &[u64],
     hazards: &[u64],
     discounts: &[u64],
@@ -42,101 +192,37 @@ pub fn back(
     register: &[u8],
     defaults: &mut [u64],
     premiums: &mut [u64],
-    count: usize,
-) -> Walk {
-    let r = export::lavroudem_back(
-        held,
-        pool,
-        attachments,
-        hazards,
-        discounts,
-        accruals,
-        coupons,
-        register,
-        defaults,
-        premiums,
-        count,
-    );
-    print::answer(b" back", r.number);
-    if r.number == 0 {
-        print::count(r.position as u64);
-    }
-    r.walk
-}
-
-pub fn value(
-    held: Walk,
-    pool: Pool,
-    attachments: &[u64],
-    hazards: &[u64],
-    discounts: &[u64],
-    accruals: &[u64],
-    coupons: &[u64],
-    register: &[u8],
-    defaults: &[u64],
-    premiums: &[u64],
-    tranche: usize,
-    count: usize,
 ) {
-    let r = export::lavroudem_value(
-        held,
-        pool,
-        attachments,
-        hazards,
-        discounts,
-        accruals,
-        coupons,
-        register,
-        defaults,
-        premiums,
-        tranche,
-        count,
-    );
-    print::answer(b" value", r.number);
-    if r.number == 0 {
-        print::count(r.default);
-        print::count(r.premium);
-        print::signed(r.net);
+    if trial[at::MADE_UP] == 1 {
+        back(
+            trial,
+            attachments,
+            hazards,
+            discounts,
+            accruals,
+            coupons,
+            register,
+            defaults,
+            premiums,
+        );
+    } else {
+        open(
+            trial,
+            attachments,
+            hazards,
+            discounts,
+            accruals,
+            coupons,
+            register,
+            defaults,
+            premiums,
+        );
     }
 }
 
-pub fn ratio(
-    held: Walk,
-    pool: Pool,
-    attachments: &[u64],
-    hazards: &[u64],
-    discounts: &[u64],
-    accruals: &[u64],
-    coupons: &[u64],
-    register: &[u8],
-    defaults: &[u64],
-    premiums: &[u64],
-    tranche: usize,
-    count: usize,
-) {
-    let r = export::lavroudem_hedge_ratio(
-        held,
-        pool,
-        attachments,
-        hazards,
-        discounts,
-        accruals,
-        coupons,
-        register,
-        defaults,
-        premiums,
-        tranche,
-        count,
-    );
-    print::answer(b" ratio", r.number);
-    if r.number == 0 {
-        print::signed(r.ratio);
-    }
-}
-
-// Prints Q(0) of the row.
+// Forward, with Q(0), Q(1) and the last of the row.
 pub fn forward(
-    pool: Pool,
+    trial: Trial,
     attachments: &[u64],
     hazards: &[u64],
     discounts: &[u64],
@@ -144,10 +230,9 @@ pub fn forward(
     coupons: &[u64],
     register: &[u8],
     row: &mut [u64],
-    steps: usize,
 ) {
     let number = export::lavroudem_forward(
-        pool,
+        pool(trial),
         attachments,
         hazards,
         discounts,
@@ -155,12 +240,7 @@ pub fn forward(
         coupons,
         register,
         row,
-        steps,
+        at::size(trial, at::FORWARD),
     );
-    print::answer(b" forward", number);
-    if number == 0 {
-        if 0 < row.len() {
-            print::count(row[0]);
-        }
-    }
+    print::spread(number, row);
 }

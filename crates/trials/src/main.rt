@@ -1,141 +1,219 @@
-// The trial entries of document 01 that are not proved of the definitions, one line each, and the refusals that need a walk or rows of their own.
-mod calls; // calls.rt: calls that print what they answer
-mod lent; // lent.rt: made-up walks and rows on a small sheet
-mod limits; // limits.rt: sheets at both sides of a limit
-mod print; // print.rt: words and numbers
+// The trial entries of document 01 that are not proved of the definitions, one line each, and every refusal beside what is just accepted.
+mod at; // at.rt: the numbers of a trial
+mod calls; // calls.rt: the calls, which print what they answer
+mod entries; // entries.rt: issue and withdraw, and what a cut write may leave
+mod lent; // lent.rt: what a trial lends
+mod print; // print.rt: numbers and answers
+mod words; // words.rt: the words of a trial's numbers
 
-use export::Walk;
-use lent::Lent;
+use at::Trial;
+use at::made_up;
+use at::walked;
+use at::with;
 
-// n 125 and 126; m 3650 and 3651; v 1 and 0; coupon 10000000 and one more.
-fn at_limits() {
-    limits::trial(b"names", 125, 125, 40, 999_900_000, 500_000);
-    limits::trial(b"names", 126, 126, 40, 999_900_000, 500_000);
-    limits::trial(b"steps", 3650, 5, 3650, 999_900_000, 500_000);
-    limits::trial(b"steps", 3651, 5, 3651, 999_900_000, 500_000);
-    limits::trial(b"discount", 1, 5, 12, 1, 500_000);
-    limits::trial(b"discount", 0, 5, 12, 0, 500_000);
-    limits::trial(b"coupon", 10_000_000, 5, 12, 999_900_000, 10_000_000);
-    limits::trial(b"coupon", 10_000_001, 5, 12, 999_900_000, 10_000_001);
+// Units in the whole pool.
+const B: u64 = 1_000_000_000;
+
+// One more.
+const OVER: u64 = 1_000_000_001;
+
+// A trial at each of the values that its number takes in turn.
+fn edge(from: u64, to: u64, start: Trial, place: usize) {
+    for value in from..=to {
+        words::of(place);
+        print::count(value);
+        lent::sheet(with(start, place, value));
+        print::end();
+    }
 }
 
-fn walk_at(open: bool, number: u8, position: usize) -> Lent {
-    let mut lent = lent::plain();
-    let walk = Walk {
-        open,
-        number,
-        position,
-    };
-    lent.walk = walk;
-    lent
+// The same of the trial that is walked, and of the made-up one.
+fn plain(from: u64, to: u64, place: usize) {
+    edge(from, to, walked(), place);
 }
 
-// 11: no walk.
-fn no_walk() {
-    lent::trial(b"closed", walk_at(false, 7, 1));
-    lent::trial(b"other number", walk_at(true, 8, 1));
-    lent::trial(b"position above m", walk_at(true, 7, 3));
+fn made(from: u64, to: u64, place: usize) {
+    edge(from, to, made_up(), place);
 }
 
-fn rows_of(own_default: u64, own_premium: u64, index_default: u64, index_premium: u64) -> Lent {
-    let mut lent = lent::plain();
-    lent.own_default = own_default;
-    lent.own_premium = own_premium;
-    lent.index_default = index_default;
-    lent.index_premium = index_premium;
-    lent
+// Small hazards, so that the last of many steps still counts.
+fn many_steps() -> Trial {
+    let walked = with(with(walked(), at::BACK, 3650), at::FORWARD, 3650);
+    let first = with(walked, at::HAZARD, 100_000);
+    let hazards = with(
+        with(first, at::THIRD_HAZARD, 300_000),
+        at::OTHER_HAZARDS,
+        200_000,
+    );
+    let discounts = with(hazards, at::OTHER_DISCOUNTS, 999_900_000);
+    let accruals = with(discounts, at::OTHER_ACCRUALS, 2_000_004);
+    with(accruals, at::TRANCHE, 1)
 }
 
-// 12: an entry at its ceiling and over it.
-fn soiled() {
-    lent::trial(b"default at its ceiling", rows_of(300_000_000, 0, 0, 0));
-    lent::trial(b"default over its ceiling", rows_of(300_000_001, 0, 0, 0));
-    lent::trial(b"premium at its ceiling", rows_of(0, 1_000_000_000, 0, 0));
-    lent::trial(b"premium over its ceiling", rows_of(0, 1_000_000_001, 0, 0));
-    lent::trial(b"index at its ceiling", rows_of(0, 0, 600_000_000, 0));
-    lent::trial(b"index over its ceiling", rows_of(0, 0, 600_000_001, 0));
-    lent::trial(b"index premium over", rows_of(0, 0, 0, 1_000_000_001));
+// 1.
+fn pool() {
+    let second = with(walked(), at::TRANCHE, 1);
+    let one_step = with(with(walked(), at::BACK, 1), at::FORWARD, 1);
+    plain(0, 1, at::NAMES);
+    edge(125, 126, with(second, at::COUNT, 124), at::NAMES);
+    edge(0, 1, one_step, at::STEPS);
+    edge(3650, 3651, many_steps(), at::STEPS);
+    edge(0, 1, second, at::TRANCHES);
+    edge(8, 9, with(walked(), at::TRANCHE, 8), at::TRANCHES);
 }
 
-fn asked(tranche: usize, count: usize, steps: usize) -> Lent {
-    let mut lent = lent::plain();
-    lent.tranche = tranche;
-    lent.count = count;
-    lent.steps = steps;
-    lent
+// 2: one fewer, right, one more.
+fn lengths() {
+    plain(2, 4, at::ATTACHMENTS_LENT);
+    plain(2, 4, at::HAZARDS_LENT);
+    plain(2, 4, at::DISCOUNTS_LENT);
+    plain(2, 4, at::ACCRUALS_LENT);
+    plain(2, 4, at::COUPONS_LENT);
+    plain(255, 257, at::REGISTER_LENT);
+    plain(11, 13, at::DEFAULTS_LENT);
+    plain(11, 13, at::PREMIUMS_LENT);
+    plain(3, 5, at::ROW_LENT);
 }
 
-// 13 and 14: operands at their limits and beyond.
+// 3 to 6.
+fn figures() {
+    let second = with(walked(), at::TRANCHE, 1);
+    let index = with(walked(), at::TRANCHE, 2);
+    let sure = with(walked(), at::OTHER_HAZARDS, B);
+    edge(B, OVER, with(index, at::COUNT, 2), at::RECOVERY);
+    plain(299_999_999, 300_000_000, at::LOWEST);
+    plain(0, 1, at::MIDDLE);
+    edge(699_999_999, 700_000_000, second, at::MIDDLE);
+    edge(B, OVER, second, at::HIGHEST);
+    edge(B, OVER, sure, at::HAZARD);
+    edge(B, OVER, with(sure, at::HAZARD, B), at::THIRD_HAZARD);
+    edge(0, 1, index, at::DISCOUNT);
+    edge(B, OVER, index, at::DISCOUNT);
+}
+
+// 7 and 8. With twelve steps the accruals but for the first are 9550000000 together.
+fn premiums() {
+    let index = with(walked(), at::TRANCHE, 2);
+    let full = with(with(index, at::STEPS, 12), at::BACK, 12);
+    edge(B, OVER, index, at::ACCRUAL);
+    edge(450_000_000, 450_000_001, full, at::ACCRUAL);
+    edge(0, 1, index, at::THIRD_ACCRUAL);
+    plain(10_000_000, 10_000_001, at::COUPON);
+    edge(10_000_000, 10_000_001, index, at::THIRD_COUPON);
+}
+
+// 9 and 10.
+fn bytes() {
+    plain(0x00, 0x00, at::BYTE);
+    plain(0xA4, 0xA6, at::BYTE);
+    plain(0xFE, 0xFF, at::BYTE);
+}
+
+// The end, where no premium is to come, and one step back from it.
+fn end() -> Trial {
+    let own = with(with(made_up(), at::OWN_PREMIUM, 0), at::OWN_NEXT_PREMIUM, 0);
+    let index = with(with(own, at::INDEX_PREMIUM, 0), at::INDEX_NEXT_PREMIUM, 0);
+    let all = with(with(index, at::LAST_PREMIUM, 0), at::OTHER_PREMIUMS, 0);
+    with(all, at::BACK, 1)
+}
+
+// 11.
+fn walks() {
+    made(0, 1, at::OPEN);
+    made(6, 8, at::NUMBER);
+    edge(3, 4, end(), at::POSITION);
+}
+
+// 12 for D: the width less what is lost.
+fn default_ceilings() {
+    let next = with(made_up(), at::COUNT, 1);
+    let index = with(made_up(), at::TRANCHE, 2);
+    let index_next = with(index, at::COUNT, 1);
+    let last = with(index, at::COUNT, 3);
+    made(300_000_000, 300_000_001, at::OWN_DEFAULT);
+    edge(100_000_001, 100_000_002, next, at::OWN_NEXT_DEFAULT);
+    edge(599_999_999, 600_000_000, index, at::INDEX_DEFAULT);
+    edge(400_000_000, 400_000_001, index_next, at::INDEX_NEXT_DEFAULT);
+    edge(0, 1, last, at::LAST_DEFAULT);
+}
+
+// 12 for A: the accruals to come.
+fn premium_ceilings() {
+    let next = with(made_up(), at::COUNT, 1);
+    let root = with(made_up(), at::POSITION, 0);
+    let index = with(made_up(), at::TRANCHE, 2);
+    let index_next = with(index, at::COUNT, 1);
+    let last = with(index, at::COUNT, 3);
+    made(B, OVER, at::OWN_PREMIUM);
+    edge(1_250_000_000, 1_250_000_001, root, at::OWN_PREMIUM);
+    edge(B, OVER, next, at::OWN_NEXT_PREMIUM);
+    edge(B, OVER, index, at::INDEX_PREMIUM);
+    edge(B, OVER, index_next, at::INDEX_NEXT_PREMIUM);
+    edge(B, OVER, last, at::LAST_PREMIUM);
+}
+
+// 13 and 14.
 fn operands() {
-    lent::trial(b"back by 0", asked(0, 0, 0));
-    lent::trial(b"back beyond the root", asked(0, 0, 2));
-    lent::trial(b"index", asked(1, 0, 1));
-    lent::trial(b"no such tranche", asked(2, 0, 1));
-    lent::trial(b"last count", asked(0, 2, 1));
-    lent::trial(b"no such count", asked(0, 3, 1));
-    lent::spread(b"forward to the end", 2);
-    lent::spread(b"forward beyond the end", 3);
+    let second = with(made_up(), at::TRANCHE, 1);
+    made(0, 3, at::BACK);
+    plain(0, 1, at::FORWARD);
+    plain(3, 4, at::FORWARD);
+    made(2, 3, at::TRANCHE);
+    edge(2, 4, second, at::COUNT);
 }
 
-// 15, 16 and the rounding of ratios. The jump of tranche 0 is 10^7 times 300000000 less its D, less 10^6 times its A; that of the index 10^7 times 300000000 less its D, less half of 10^6 times its A.
-fn ratios() {
-    lent::trial(b"flat", rows_of(0, 0, 300_000_000, 0));
-    lent::trial(b"off scale", rows_of(299_000_000, 0, 299_999_999, 0));
-    lent::trial(b"just on scale", rows_of(299_000_001, 0, 299_999_999, 0));
-    lent::trial(b"half", rows_of(299_999_999, 0, 298_000_000, 0));
-    lent::trial(b"below a half", rows_of(299_999_999, 0, 297_999_999, 0));
-    lent::trial(b"three halves", rows_of(299_999_997, 0, 298_000_000, 0));
-    lent::trial(b"minus half", rows_of(300_000_000, 10, 298_000_000, 0));
-    lent::trial(
-        b"above minus half",
-        rows_of(300_000_000, 10, 297_999_999, 0),
-    );
-    lent::trial(
-        b"minus three halves",
-        rows_of(300_000_000, 30, 298_000_000, 0),
-    );
-    lent::trial(b"index falls", rows_of(299_999_999, 0, 302_000_000, 0));
-    lent::trial(b"both fall", rows_of(300_000_000, 10, 302_000_000, 0));
-    lent::trial(
-        b"minus off scale",
-        rows_of(300_000_000, 10_000_000, 299_999_999, 0),
-    );
+// With coupons of 1 a jump is A at count 0 less A at count 1, which is 5000000: D fall by what a default pays.
+fn jumps(own: u64, index: u64) -> Trial {
+    let coupons = with(with(made_up(), at::COUPON, 1), at::THIRD_COUPON, 1);
+    with(
+        with(coupons, at::OWN_PREMIUM, own),
+        at::INDEX_PREMIUM,
+        index,
+    )
 }
 
-// 9, 10 and 17: a number's life in the register.
-fn register_calls() {
-    let mut register = [0xFFu8; 256];
-    print::answer(
-        b"withdraw unissued",
-        export::lavroudem_withdraw(&mut register, 7),
+// 15 and 16, for jumps of either sign.
+fn scales() {
+    let rises = jumps(5_000_000, 5_000_001);
+    let falls = jumps(5_000_000, 4_999_999);
+    edge(
+        4_999_999,
+        5_000_001,
+        jumps(5_999_999, 5_000_000),
+        at::INDEX_PREMIUM,
     );
-    print::end();
-    print::answer(b"issue", export::lavroudem_issue(&mut register, 7));
-    print::end();
-    print::answer(b"issue live", export::lavroudem_issue(&mut register, 7));
-    print::end();
-    print::answer(b"withdraw", export::lavroudem_withdraw(&mut register, 7));
-    print::end();
-    print::answer(
-        b"withdraw again",
-        export::lavroudem_withdraw(&mut register, 7),
-    );
-    print::end();
-    print::answer(
-        b"issue withdrawn",
-        export::lavroudem_issue(&mut register, 7),
-    );
-    print::end();
-    let mut short = [0xFFu8; 255];
-    print::answer(b"short register", export::lavroudem_issue(&mut short, 7));
-    print::end();
+    edge(5_999_999, 6_000_000, rises, at::OWN_PREMIUM);
+    edge(5_999_999, 6_000_000, falls, at::OWN_PREMIUM);
+    edge(4_000_000, 4_000_001, rises, at::OWN_PREMIUM);
+    edge(4_000_000, 4_000_001, falls, at::OWN_PREMIUM);
+}
+
+// Halves of a millionth go away from zero.
+fn halves() {
+    let one = jumps(5_000_001, 5_000_000);
+    let three = jumps(5_000_003, 5_000_000);
+    let minus_one = jumps(4_999_999, 5_000_000);
+    let minus_three = jumps(4_999_997, 5_000_000);
+    edge(7_000_000, 7_000_001, one, at::INDEX_PREMIUM);
+    edge(7_000_000, 7_000_001, three, at::INDEX_PREMIUM);
+    edge(7_000_000, 7_000_001, minus_one, at::INDEX_PREMIUM);
+    edge(7_000_000, 7_000_001, minus_three, at::INDEX_PREMIUM);
+    edge(2_999_999, 3_000_000, one, at::INDEX_PREMIUM);
+    edge(2_999_999, 3_000_000, minus_one, at::INDEX_PREMIUM);
 }
 
 fn main() {
-    at_limits();
-    no_walk();
-    soiled();
+    pool();
+    lengths();
+    figures();
+    premiums();
+    bytes();
+    walks();
+    default_ceilings();
+    premium_ceilings();
     operands();
-    ratios();
-    register_calls();
+    scales();
+    halves();
+    entries::all();
+    entries::cut_writes();
 }

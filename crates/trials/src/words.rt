@@ -1,0 +1,29 @@
+// The words of a trial's numbers, by their places.
+use crate::print;
+
+// Words of 18 bytes with their spaces.
+pub fn of(place: usize) {
+    cell(
+        b"\
+names             steps             tranches          recovery          attachments lent  hazards lent      \
+discounts lent    accruals lent     coupons lent      register lent     defaults lent     premiums lent     \
+row lent          lowest            middle            highest           hazard            third hazard      \
+other hazards     discount          other discounts   accrual           third accrual     other accruals    \
+coupon            third coupon      other coupons     byte              made up           open              \
+number            position          back              tranche           count             forward           \
+own default       own next default  other defaults    index default     index next defaultlast default      \
+own premium       own next premium  other premiums    index premium     index next premiumlast premium      ",
+        place,
+    );
+}
+
+fn cell(words: &[u8], place: usize) {
+    if 47 < place {
+        return;
+    }
+    let from = 18 * place;
+    let to = from + 18;
+    if to <= words.len() {
+        print::text(&words[from..to]);
+    }
+}
