@@ -68,6 +68,7 @@ fn declares(line: &str, name: &str) -> bool {
         "unfoldable",
         "abbrev",
         "pub",
+        "crate",
         "record",
         "data",
         "fn",
@@ -148,24 +149,60 @@ fn print_below(key: &Key, count: (usize, usize), below: &BTreeSet<Key>) {
     }
 }
 
-/// Rows of the page's table of files: path, lines, purpose.
+/// All that the statements with a count on the page rest on: those of the
+/// deck and the exported calls, or the others.
+fn rested_on(page: &str, definitions: &Definitions, of_the_listing: bool) -> BTreeSet<Key> {
+    let counted = citations(page)
+        .into_iter()
+        .filter(|citation| counted(citation.behind).is_some())
+        .map(|citation| (citation.path.to_string(), citation.names[0].to_string()));
+    counted
+        .filter(|(file, _)| {
+            (file.starts_with("deck/") || file.starts_with("export/")) == of_the_listing
+        })
+        .flat_map(|key| definitions.below(key))
+        .collect()
+}
+
+/// Rows of the page's table of files: path, lines, lines under the promise,
+/// lines under the listing alone, purpose. With `--nocapture` it prints them.
 #[test]
 fn table_of_definitions_is_whole() {
     let crates = root().join("crates");
     let page = page();
-    let mut total = 0;
+    let definitions = Definitions::read(&crates);
+    let promise = rested_on(&page, &definitions, false);
+    let mut listing = rested_on(&page, &definitions, true);
+    listing.retain(|key| !promise.contains(key));
+    let mut missing = Vec::new();
+    let mut totals = [0; 3];
     for path in spec_files(&crates) {
         let file = path.strip_prefix(&crates).unwrap().to_str().unwrap();
         if file.ends_with("/Lib.antt") {
             continue; // names the others, and defines nothing
         }
         let text = fs::read_to_string(&path).unwrap();
-        let lines = text.lines().filter(|line| counts(line)).count();
-        let row = format!("| `{file}` | {lines} |");
-        assert!(page.contains(&row), "the table lacks {row}");
-        total += lines;
+        let all = text.lines().filter(|line| counts(line)).count();
+        let under = |keys: &BTreeSet<Key>| {
+            let here = keys.iter().filter(|key| key.0 == file).cloned().collect();
+            definitions.lines(&here)
+        };
+        let lines = [all, under(&promise), under(&listing)];
+        for (total, lines) in totals.iter_mut().zip(lines) {
+            *total += lines;
+        }
+        let row = format!("| `{file}` | {} | {} | {} |", lines[0], lines[1], lines[2]);
+        println!("{row}");
+        if !page.contains(&row) {
+            missing.push(row);
+        }
     }
-    let sum = format!("{total} lines in all");
+    let [all, promise, listing] = totals;
+    let sum = format!(
+        "{all} lines in all, {promise} under the promise, {listing} more under the listing"
+    );
+    println!("{sum}");
+    assert!(missing.is_empty(), "the table lacks {missing:#?}");
     assert!(page.contains(&sum), "the page lacks \"{sum}\"");
 }
 
