@@ -76,7 +76,7 @@ enum lavroudem_refusal {
     LAVROUDEM_REFUSED_POOL = 1, /* names, steps or tranches 0 or too many */
     LAVROUDEM_REFUSED_LENGTH = 2, /* a list has another length than it should */
     LAVROUDEM_REFUSED_RECOVERY = 3, /* above 1 */
-    LAVROUDEM_REFUSED_CUTS = 4, /* attachments not strictly rising, or above 1 */
+    LAVROUDEM_REFUSED_ATTACHMENTS = 4, /* not strictly rising, or one above 1 */
     LAVROUDEM_REFUSED_HAZARD = 5, /* one above 1 */
     LAVROUDEM_REFUSED_DISCOUNT = 6, /* one 0 or above 1 */
     LAVROUDEM_REFUSED_ACCRUAL = 7, /* one above 1, their sum above 10, or the last 0 */
@@ -84,7 +84,7 @@ enum lavroudem_refusal {
     LAVROUDEM_REFUSED_WITHDRAWN = 9, /* by the register */
     LAVROUDEM_REFUSED_UNISSUED = 10, /* by the register */
     LAVROUDEM_REFUSED_NO_WALK = 11, /* closed, of another number, or beyond the last step */
-    LAVROUDEM_REFUSED_SOILED = 12, /* an entry of the rows is over its ceiling */
+    LAVROUDEM_REFUSED_OVER_CEILING = 12, /* an entry of the rows is over its ceiling */
     LAVROUDEM_REFUSED_OUT_OF_STEPS = 13, /* back beyond the root, or forward beyond the last step */
     LAVROUDEM_REFUSED_OFF_TREE = 14, /* no such tranche or default count */
     LAVROUDEM_REFUSED_FLAT_HEDGE = 15, /* the index does not move with the next default */
@@ -96,7 +96,7 @@ enum lavroudem_refusal {
     LAVROUDEM_REFUSED_TOO_MANY = 20 /* entries of a list, pools, or bytes of a deck */
 };
 
-/* The word of a refusal; "" for a number that is none. */
+/* The word that document 01 has for a refusal; "" for a number that is none. */
 static inline const char *lavroudem_word(unsigned refusal)
 {
     static const char *const words[] = {
@@ -109,13 +109,7 @@ static inline const char *lavroudem_word(unsigned refusal)
 
 /* ---- what is brought and answered */
 
-/* A sheet's figures. Its lists go beside it:
- *   attachments  tranches + 1, rising; tranche j lies between entries j and j + 1
- *   hazards      names; entry k is the chance that a step takes k defaults to k + 1
- *   discounts    steps; entry i - 1 brings cash from step i to step i - 1
- *   accruals     steps; entry i - 1 is paid at step i, and 0 if that is no premium date
- *   coupons      tranches + 1, that of the index last
- */
+/* A sheet's figures but for its lists. */
 struct lavroudem_pool {
     size_t names;
     size_t steps;
@@ -123,6 +117,75 @@ struct lavroudem_pool {
     uint64_t recovery;
     uint8_t number;
 };
+
+/*
+ * Where a list stands among the numbers of a sheet. One that reaches past
+ * their end is a shorter list. A list of another length than the pool asks
+ * for is refused.
+ */
+struct lavroudem_span {
+    size_t at;
+    size_t length;
+};
+
+/*
+ * A sheet. Its numbers are lent beside it, as one list in which each of its
+ * five lists has a span:
+ *   attachments  tranches + 1, rising; tranche j lies between entries j and j + 1
+ *   hazards      names; entry k is the chance that a step takes k defaults to k + 1
+ *   discounts    steps; entry i - 1 brings cash from step i to step i - 1
+ *   accruals     steps; entry i - 1 is paid at step i, and 0 if that is no premium date
+ *   coupons      tranches + 1, that of the index last
+ */
+struct lavroudem_sheet {
+    struct lavroudem_pool pool;
+    struct lavroudem_span attachments;
+    struct lavroudem_span hazards;
+    struct lavroudem_span discounts;
+    struct lavroudem_span accruals;
+    struct lavroudem_span coupons;
+};
+
+/* The numbers of a sheet that is accepted, and of the largest. */
+#define LAVROUDEM_NUMBERS(names, steps, tranches) \
+    (2 * ((tranches) + 1) + (names) + 2 * (steps))
+#define LAVROUDEM_MAX_NUMBERS \
+    LAVROUDEM_NUMBERS(LAVROUDEM_MAX_NAMES, LAVROUDEM_MAX_STEPS, LAVROUDEM_MAX_TRANCHES)
+
+/*
+ * Lays the lists out one after the other, in the order of their spans, and
+ * answers how many numbers they have. The lengths are those that the lists
+ * have; what the pool asks for is checked by each call.
+ *
+ *     const uint64_t numbers[] = {
+ *         0, 300000000,                    // attachments, tranches + 1
+ *         100000000, 200000000, 300000000, // hazards, names
+ *         900000000,                       // discounts, steps
+ *         1000000000,                      // accruals, steps
+ *         1000000, 500000,                 // coupons, tranches + 1
+ *     };
+ *     struct lavroudem_sheet sheet = {.pool = {3, 1, 1, 400000000, 7}};
+ *     size_t length = lavroudem_lay_out(&sheet, 2, 3, 1, 1, 2);
+ */
+static inline size_t lavroudem_lay_out(
+    struct lavroudem_sheet *sheet, size_t attachments, size_t hazards, size_t discounts,
+    size_t accruals, size_t coupons)
+{
+    struct lavroudem_span *const spans[] = {
+        &sheet->attachments, &sheet->hazards, &sheet->discounts, &sheet->accruals, &sheet->coupons,
+    };
+    const size_t lengths[] = {attachments, hazards, discounts, accruals, coupons};
+    size_t at = 0;
+    for (size_t list = 0; list < sizeof lengths / sizeof lengths[0]; list++) {
+        spans[list]->at = at;
+        spans[list]->length = lengths[list];
+        at += lengths[list];
+    }
+    return at;
+}
+
+/* An array, not a pointer, as a call takes it: where it starts, and its entries. */
+#define LAVROUDEM_LENT(array) (array), sizeof (array) / sizeof (array)[0]
 
 /* A walk. A fresh one is all zeros. Pass the one that the last call handed back. */
 struct lavroudem_walk {
@@ -174,12 +237,8 @@ uint8_t lavroudem_withdraw(uint8_t *register_bytes, size_t register_length, uint
  */
 struct lavroudem_opened lavroudem_open(
     struct lavroudem_walk walk,
-    struct lavroudem_pool pool,
-    const uint64_t *attachments, size_t attachments_length,
-    const uint64_t *hazards, size_t hazards_length,
-    const uint64_t *discounts, size_t discounts_length,
-    const uint64_t *accruals, size_t accruals_length,
-    const uint64_t *coupons, size_t coupons_length,
+    struct lavroudem_sheet sheet,
+    const uint64_t *numbers, size_t numbers_length,
     const uint8_t *register_bytes, size_t register_length,
     uint64_t *defaults, size_t defaults_length,
     uint64_t *premiums, size_t premiums_length);
@@ -190,12 +249,8 @@ struct lavroudem_opened lavroudem_open(
  */
 struct lavroudem_moved lavroudem_back(
     struct lavroudem_walk walk,
-    struct lavroudem_pool pool,
-    const uint64_t *attachments, size_t attachments_length,
-    const uint64_t *hazards, size_t hazards_length,
-    const uint64_t *discounts, size_t discounts_length,
-    const uint64_t *accruals, size_t accruals_length,
-    const uint64_t *coupons, size_t coupons_length,
+    struct lavroudem_sheet sheet,
+    const uint64_t *numbers, size_t numbers_length,
     const uint8_t *register_bytes, size_t register_length,
     uint64_t *defaults, size_t defaults_length,
     uint64_t *premiums, size_t premiums_length,
@@ -208,12 +263,8 @@ struct lavroudem_moved lavroudem_back(
  */
 struct lavroudem_valued lavroudem_value(
     struct lavroudem_walk walk,
-    struct lavroudem_pool pool,
-    const uint64_t *attachments, size_t attachments_length,
-    const uint64_t *hazards, size_t hazards_length,
-    const uint64_t *discounts, size_t discounts_length,
-    const uint64_t *accruals, size_t accruals_length,
-    const uint64_t *coupons, size_t coupons_length,
+    struct lavroudem_sheet sheet,
+    const uint64_t *numbers, size_t numbers_length,
     const uint8_t *register_bytes, size_t register_length,
     const uint64_t *defaults, size_t defaults_length,
     const uint64_t *premiums, size_t premiums_length,
@@ -226,12 +277,8 @@ struct lavroudem_valued lavroudem_value(
  */
 struct lavroudem_hedged lavroudem_hedge_ratio(
     struct lavroudem_walk walk,
-    struct lavroudem_pool pool,
-    const uint64_t *attachments, size_t attachments_length,
-    const uint64_t *hazards, size_t hazards_length,
-    const uint64_t *discounts, size_t discounts_length,
-    const uint64_t *accruals, size_t accruals_length,
-    const uint64_t *coupons, size_t coupons_length,
+    struct lavroudem_sheet sheet,
+    const uint64_t *numbers, size_t numbers_length,
     const uint8_t *register_bytes, size_t register_length,
     const uint64_t *defaults, size_t defaults_length,
     const uint64_t *premiums, size_t premiums_length,
@@ -243,12 +290,8 @@ struct lavroudem_hedged lavroudem_hedge_ratio(
  * Refusals 1 to 10 and 13.
  */
 uint8_t lavroudem_forward(
-    struct lavroudem_pool pool,
-    const uint64_t *attachments, size_t attachments_length,
-    const uint64_t *hazards, size_t hazards_length,
-    const uint64_t *discounts, size_t discounts_length,
-    const uint64_t *accruals, size_t accruals_length,
-    const uint64_t *coupons, size_t coupons_length,
+    struct lavroudem_sheet sheet,
+    const uint64_t *numbers, size_t numbers_length,
     const uint8_t *register_bytes, size_t register_length,
     uint64_t *row, size_t row_length,
     size_t steps);
@@ -263,83 +306,6 @@ size_t lavroudem_deck_room(size_t deck_length);
  */
 #define LAVROUDEM_NO_ROOM SIZE_MAX
 size_t lavroudem_run_deck(const uint8_t *deck, size_t deck_length, uint8_t *out, size_t out_length);
-
-/* ---- a sheet and its rows in one piece, so that no call lists them again */
-
-struct lavroudem_list {
-    const uint64_t *entries;
-    size_t length;
-};
-
-/* Initializes a list from an array (not from a pointer). */
-#define LAVROUDEM_LIST(array) { (array), sizeof (array) / sizeof (array)[0] }
-
-struct lavroudem_sheet {
-    struct lavroudem_pool pool;
-    struct lavroudem_list attachments;
-    struct lavroudem_list hazards;
-    struct lavroudem_list discounts;
-    struct lavroudem_list accruals;
-    struct lavroudem_list coupons;
-};
-
-/* Both rows have this length, (tranches + 1) * (names + 1). */
-struct lavroudem_rows {
-    uint64_t *defaults;
-    uint64_t *premiums;
-    size_t length;
-};
-
-#define LAVROUDEM_LENT(list) (list).entries, (list).length
-#define LAVROUDEM_LENT_SHEET(sheet, register_bytes)                              \
-    (sheet)->pool, LAVROUDEM_LENT((sheet)->attachments),                         \
-    LAVROUDEM_LENT((sheet)->hazards), LAVROUDEM_LENT((sheet)->discounts),        \
-    LAVROUDEM_LENT((sheet)->accruals), LAVROUDEM_LENT((sheet)->coupons),         \
-    (register_bytes), LAVROUDEM_REGISTER_LENGTH
-#define LAVROUDEM_LENT_ROWS(rows) (rows).defaults, (rows).length, (rows).premiums, (rows).length
-
-/* The register has LAVROUDEM_REGISTER_LENGTH bytes here and below. */
-static inline struct lavroudem_opened lavroudem_sheet_open(
-    struct lavroudem_walk walk, const struct lavroudem_sheet *sheet,
-    const uint8_t *register_bytes, struct lavroudem_rows rows)
-{
-    return lavroudem_open(
-        walk, LAVROUDEM_LENT_SHEET(sheet, register_bytes), LAVROUDEM_LENT_ROWS(rows));
-}
-
-static inline struct lavroudem_moved lavroudem_sheet_back(
-    struct lavroudem_walk walk, const struct lavroudem_sheet *sheet,
-    const uint8_t *register_bytes, struct lavroudem_rows rows, size_t steps)
-{
-    return lavroudem_back(
-        walk, LAVROUDEM_LENT_SHEET(sheet, register_bytes), LAVROUDEM_LENT_ROWS(rows), steps);
-}
-
-static inline struct lavroudem_valued lavroudem_sheet_value(
-    struct lavroudem_walk walk, const struct lavroudem_sheet *sheet,
-    const uint8_t *register_bytes, struct lavroudem_rows rows, size_t tranche, size_t count)
-{
-    return lavroudem_value(
-        walk, LAVROUDEM_LENT_SHEET(sheet, register_bytes), LAVROUDEM_LENT_ROWS(rows),
-        tranche, count);
-}
-
-static inline struct lavroudem_hedged lavroudem_sheet_hedge_ratio(
-    struct lavroudem_walk walk, const struct lavroudem_sheet *sheet,
-    const uint8_t *register_bytes, struct lavroudem_rows rows, size_t tranche, size_t count)
-{
-    return lavroudem_hedge_ratio(
-        walk, LAVROUDEM_LENT_SHEET(sheet, register_bytes), LAVROUDEM_LENT_ROWS(rows),
-        tranche, count);
-}
-
-static inline uint8_t lavroudem_sheet_forward(
-    const struct lavroudem_sheet *sheet, const uint8_t *register_bytes,
-    uint64_t *row, size_t row_length, size_t steps)
-{
-    return lavroudem_forward(
-        LAVROUDEM_LENT_SHEET(sheet, register_bytes), row, row_length, steps);
-}
 
 /* ---- the layout of the archive, in bytes */
 
@@ -357,6 +323,18 @@ LAVROUDEM_OFFSET(lavroudem_pool, steps, 8);
 LAVROUDEM_OFFSET(lavroudem_pool, tranches, 16);
 LAVROUDEM_OFFSET(lavroudem_pool, recovery, 24);
 LAVROUDEM_OFFSET(lavroudem_pool, number, 32);
+
+LAVROUDEM_SIZE(lavroudem_span, 16);
+LAVROUDEM_OFFSET(lavroudem_span, at, 0);
+LAVROUDEM_OFFSET(lavroudem_span, length, 8);
+
+LAVROUDEM_SIZE(lavroudem_sheet, 120);
+LAVROUDEM_OFFSET(lavroudem_sheet, pool, 0);
+LAVROUDEM_OFFSET(lavroudem_sheet, attachments, 40);
+LAVROUDEM_OFFSET(lavroudem_sheet, hazards, 56);
+LAVROUDEM_OFFSET(lavroudem_sheet, discounts, 72);
+LAVROUDEM_OFFSET(lavroudem_sheet, accruals, 88);
+LAVROUDEM_OFFSET(lavroudem_sheet, coupons, 104);
 
 LAVROUDEM_SIZE(lavroudem_walk, 16);
 LAVROUDEM_OFFSET(lavroudem_walk, open, 0);

@@ -1,6 +1,6 @@
 //! The commands of a deck: byte, word and operands (document 01, "Deck and
-//! printing program"). One table serves the run of a deck, its text form and
-//! the table for people.
+//! printing program"). One table serves the run of a deck and, in the crate of
+//! the tool, its text form and the table for people.
 
 use crate::refusal::{refuse_if, Refusal};
 
@@ -90,17 +90,15 @@ pub static COMMANDS: [Command; 12] = [
     Command::new(FORWARD, "forward", &[("step", 2), ("count", 1)]),
 ];
 
-/// The largest number that so many bytes hold.
-pub fn largest(width: usize) -> u64 {
-    256_u64.pow(width as u32) - 1
-}
-
-pub fn by_byte(byte: u8) -> Option<&'static Command> {
+fn by_byte(byte: u8) -> Option<&'static Command> {
     COMMANDS.iter().find(|command| command.byte == byte)
 }
 
-pub fn by_word(word: &str) -> Option<&'static Command> {
-    COMMANDS.iter().find(|command| command.word == word)
+/// A command of a known byte, to write a deck with.
+pub fn encode(byte: u8, operands: &[u64]) -> Vec<u8> {
+    let command = by_byte(byte).expect("a command's byte");
+    assert_eq!(operands.len(), command.operands.len(), "{}", command.word);
+    command.encode(operands)
 }
 
 /// A command that was read from a deck.

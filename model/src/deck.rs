@@ -20,6 +20,7 @@ pub const MAX_DECK: usize = 65_536;
 /// Room for the rows of the largest tree.
 const ROW_ROOM: usize = (MAX_TRANCHES + 1) * (MAX_NAMES + 1);
 
+type ByNumber = fn(&mut [u8], u8) -> Result<(), Refusal>;
 type Open = fn(Walk, &Sheet, &[u8], &mut [u64], &mut [u64]) -> (Walk, Result<(), Refusal>);
 type Back =
     fn(Walk, &Sheet, &[u8], usize, &mut [u64], &mut [u64]) -> (Walk, Result<usize, Refusal>);
@@ -32,6 +33,8 @@ type Forward = fn(&Sheet, &[u8], usize, &mut [u64]) -> Result<(), Refusal>;
 /// The calls that a deck is run by. The benchmark brings faster ones.
 #[derive(Clone, Copy)]
 pub struct Calls {
+    pub issue: ByNumber,
+    pub withdraw: ByNumber,
     pub open: Open,
     pub back: Back,
     pub value: Value,
@@ -41,6 +44,8 @@ pub struct Calls {
 
 /// The model's own.
 pub const CALLS: Calls = Calls {
+    issue: register::issue,
+    withdraw: register::withdraw,
     open: walk::open,
     back: walk::back,
     value: walk::value,
@@ -176,9 +181,11 @@ fn add(list: &mut Vec<u64>, limit: usize, figure: u64) -> Result<(), Refusal> {
 /// Commands 06 to 0C: the line each of them prints.
 fn call(program: &mut Program, read: &Decoded) -> String {
     let answer = match (read.command.byte, read.operands()) {
-        (ISSUE, &[number]) => register::issue(&mut program.register, number as u8).map(|()| vec![]),
+        (ISSUE, &[number]) => {
+            (program.calls.issue)(&mut program.register, number as u8).map(|()| vec![])
+        }
         (WITHDRAW, &[number]) => {
-            register::withdraw(&mut program.register, number as u8).map(|()| vec![])
+            (program.calls.withdraw)(&mut program.register, number as u8).map(|()| vec![])
         }
         (OPEN, &[]) => open(program).map(|()| vec![]),
         (BACK, &[steps]) => back(program, steps as usize).map(|position| vec![position as i128]),

@@ -1,7 +1,10 @@
 //! Random decks by seed: whole ones, and ones with a limit broken, damaged,
 //! cut short, reordered, oversized or of noise.
 
-use crate::commands::COMMANDS;
+use crate::commands::{
+    encode, BACK, COMMANDS, COUPON, CUT, DELTA, FORWARD, HAZARD, ISSUE, OPEN, POOL, STEP, VALUE,
+    WITHDRAW,
+};
 use crate::deck::MAX_DECK;
 use crate::random::Random;
 use crate::sheet::{Sheet, MAX_NAMES, MAX_STEPS, MAX_TRANCHES};
@@ -44,10 +47,10 @@ pub fn oversized(random: &mut Random) -> Vec<u8> {
     let sheet = random.small_sheet();
     let mut commands = whole(random, &sheet);
     let (extra, limit) = match random.below(5) {
-        0 => (with_figure(0x02, 5), MAX_TRANCHES + 2),
-        1 => (with_figure(0x03, 5), MAX_NAMES + 1),
-        2 => (step(B, 1), MAX_STEPS + 1),
-        3 => (with_figure(0x05, 5), MAX_TRANCHES + 2),
+        0 => (encode(CUT, &[5]), MAX_TRANCHES + 2),
+        1 => (encode(HAZARD, &[5]), MAX_NAMES + 1),
+        2 => (encode(STEP, &[B, 1]), MAX_STEPS + 1),
+        3 => (encode(COUPON, &[5]), MAX_TRANCHES + 2),
         _ => (pool(&sheet), 1),
     };
     let place = random.below(commands.len());
@@ -57,7 +60,7 @@ pub fn oversized(random: &mut Random) -> Vec<u8> {
     let mut deck = commands.concat();
     if random.one_in(3) {
         let length = random.between(MAX_DECK as u64 - 2, MAX_DECK as u64 + 2) as usize;
-        deck.resize(length, 0x08);
+        deck.resize(length, OPEN);
     }
     deck
 }
@@ -66,19 +69,19 @@ pub fn oversized(random: &mut Random) -> Vec<u8> {
 pub fn longest(random: &mut Random) -> Vec<u8> {
     let sheet = random.sheet(MAX_NAMES, MAX_STEPS, MAX_TRANCHES);
     let mut commands = entries(random, &sheet);
-    commands.push(vec![0x06, sheet.number]);
-    commands.push(vec![0x08]);
+    commands.push(of_number(ISSUE, sheet.number));
+    commands.push(open());
     let mut left = sheet.steps;
     while left > 0 {
         let count = left.min(random.between(1, 2_000) as usize);
         commands.push(back(count));
-        commands.push(at_node(0x0A, random.below(9), random.below(126)));
-        commands.push(at_node(0x0B, random.below(9), random.below(126)));
+        commands.push(at_node(VALUE, random.below(9), random.below(126)));
+        commands.push(at_node(DELTA, random.below(9), random.below(126)));
         left -= count;
     }
     commands.push(forward(sheet.steps, random.below(126)));
-    commands.push(vec![0x07, sheet.number]);
-    commands.push(at_node(0x0A, 0, 0));
+    commands.push(of_number(WITHDRAW, sheet.number));
+    commands.push(at_node(VALUE, 0, 0));
     commands.concat()
 }
 
@@ -86,11 +89,11 @@ pub fn longest(random: &mut Random) -> Vec<u8> {
 /// of every tranche and the distribution there.
 pub fn of_sheet(sheet: &Sheet) -> Vec<u8> {
     let mut commands = entries(&mut Random::new(0), sheet);
-    commands.push(vec![0x06, sheet.number]);
-    commands.push(vec![0x08]);
+    commands.push(of_number(ISSUE, sheet.number));
+    commands.push(open());
     commands.push(back(sheet.steps));
     for tranche in 0..=sheet.tranches {
-        commands.push(at_node(0x0A, tranche, 0));
+        commands.push(at_node(VALUE, tranche, 0));
     }
     commands.push(forward(sheet.steps, 0));
     commands.concat()
@@ -99,41 +102,30 @@ pub fn of_sheet(sheet: &Sheet) -> Vec<u8> {
 // ---- commands
 
 fn pool(sheet: &Sheet) -> Vec<u8> {
-    let mut bytes = vec![0x01, sheet.names as u8];
-    bytes.extend((sheet.steps as u16).to_le_bytes());
-    bytes.push(sheet.tranches as u8);
-    bytes.extend((sheet.recovery as u32).to_le_bytes());
-    bytes.push(sheet.number);
-    bytes
+    let shape = [sheet.names, sheet.steps, sheet.tranches].map(|number| number as u64);
+    let [names, steps, tranches] = shape;
+    let number = u64::from(sheet.number);
+    encode(POOL, &[names, steps, tranches, sheet.recovery, number])
 }
 
-fn with_figure(command: u8, figure: u64) -> Vec<u8> {
-    let mut bytes = vec![command];
-    bytes.extend((figure as u32).to_le_bytes());
-    bytes
+fn of_number(command: u8, number: u8) -> Vec<u8> {
+    encode(command, &[u64::from(number)])
 }
 
-fn step(discount: u64, accrual: u64) -> Vec<u8> {
-    let mut bytes = with_figure(0x04, discount);
-    bytes.extend((accrual as u32).to_le_bytes());
-    bytes
+fn open() -> Vec<u8> {
+    encode(OPEN, &[])
 }
 
-fn back(count: usize) -> Vec<u8> {
-    let mut bytes = vec![0x09];
-    bytes.extend((count as u16).to_le_bytes());
-    bytes
+fn back(steps: usize) -> Vec<u8> {
+    encode(BACK, &[steps as u64])
 }
 
 fn at_node(command: u8, tranche: usize, count: usize) -> Vec<u8> {
-    vec![command, tranche as u8, count as u8]
+    encode(command, &[tranche as u64, count as u64])
 }
 
 fn forward(steps: usize, count: usize) -> Vec<u8> {
-    let mut bytes = vec![0x0C];
-    bytes.extend((steps as u16).to_le_bytes());
-    bytes.push(count as u8);
-    bytes
+    encode(FORWARD, &[steps as u64, count as u64])
 }
 
 // ---- decks
@@ -141,8 +133,8 @@ fn forward(steps: usize, count: usize) -> Vec<u8> {
 /// The sheet, and then calls on it.
 fn whole(random: &mut Random, sheet: &Sheet) -> Commands {
     let mut commands = entries(random, sheet);
-    commands.push(vec![0x06, sheet.number]);
-    commands.push(vec![0x08]);
+    commands.push(of_number(ISSUE, sheet.number));
+    commands.push(open());
     for _ in 0..random.below(12) {
         commands.push(call(random, sheet));
     }
@@ -155,16 +147,16 @@ fn entries(random: &mut Random, sheet: &Sheet) -> Commands {
     let figures = |command: u8, list: &[u64]| -> Commands {
         list.iter()
             .rev()
-            .map(|&f| with_figure(command, f))
+            .map(|&figure| encode(command, &[figure]))
             .collect()
     };
     let steps = sheet.discounts.iter().zip(&sheet.accruals).rev();
     let mut piles = [
         vec![pool(sheet)],
-        figures(0x02, &sheet.attachments),
-        figures(0x03, &sheet.hazards),
-        steps.map(|(&v, &a)| step(v, a)).collect(),
-        figures(0x05, &sheet.coupons),
+        figures(CUT, &sheet.attachments),
+        figures(HAZARD, &sheet.hazards),
+        steps.map(|(&v, &a)| encode(STEP, &[v, a])).collect(),
+        figures(COUPON, &sheet.coupons),
     ];
     let mut commands = Vec::new();
     while piles.iter().any(|pile| !pile.is_empty()) {
@@ -187,13 +179,13 @@ fn call(random: &mut Random, sheet: &Sheet) -> Vec<u8> {
         below(sheet.names),
     );
     match random.below(20) {
-        0 => vec![0x06, random.draw() as u8],
-        1 => vec![0x07, sheet.number],
-        2 => vec![0x07, random.draw() as u8],
-        3 => vec![0x08],
+        0 => of_number(ISSUE, random.draw() as u8),
+        1 => of_number(WITHDRAW, sheet.number),
+        2 => of_number(WITHDRAW, random.draw() as u8),
+        3 => open(),
         4..=8 => back(steps),
-        9..=12 => at_node(0x0A, tranche, count),
-        13..=16 => at_node(0x0B, tranche, count),
+        9..=12 => at_node(VALUE, tranche, count),
+        13..=16 => at_node(DELTA, tranche, count),
         _ => forward(steps, count),
     }
 }

@@ -5,47 +5,48 @@ use crate::deck::Calls;
 use crate::refusal::Refusal;
 use crate::sheet::Sheet;
 use crate::walk::{Value, Walk};
-use lavroudem::lent;
+use lavroudem::{lent, Lists, Pool};
 
 pub use lavroudem::lent::{deck_room, run_deck};
 
-/// The engine's calls that bring a sheet.
+/// The engine's calls. Each copies the sheet; a program that counts its time
+/// makes it once, by [`lend`].
 pub const CALLS: Calls = Calls {
-    open,
-    back,
-    value,
-    hedge_ratio,
-    forward,
+    issue,
+    withdraw,
+    open: |walk, sheet, register, d, a| open(walk, &lend(sheet), register, d, a),
+    back: |walk, sheet, register, steps, d, a| back(walk, &lend(sheet), register, steps, d, a),
+    value: |walk, sheet, register, tranche, count, d, a| {
+        value(walk, &lend(sheet), register, tranche, count, d, a)
+    },
+    hedge_ratio: |walk, sheet, register, tranche, count, d, a| {
+        hedge_ratio(walk, &lend(sheet), register, tranche, count, d, a)
+    },
+    forward: |sheet, register, steps, row| forward(&lend(sheet), register, steps, row),
 };
 
-pub fn issue(register: &mut [u8], number: u8) -> Result<(), Refusal> {
+fn issue(register: &mut [u8], number: u8) -> Result<(), Refusal> {
     lavroudem::issue(register, number).map_err(refusal)
 }
 
-pub fn withdraw(register: &mut [u8], number: u8) -> Result<(), Refusal> {
+fn withdraw(register: &mut [u8], number: u8) -> Result<(), Refusal> {
     lavroudem::withdraw(register, number).map_err(refusal)
 }
 
-fn open(
+pub fn open(
     walk: Walk,
-    sheet: &Sheet,
+    sheet: &lavroudem::Sheet,
     register: &[u8],
     default_row: &mut [u64],
     premium_row: &mut [u64],
 ) -> (Walk, Result<(), Refusal>) {
-    let (walk, answer) = lent::open(
-        brought(walk),
-        &lend(sheet),
-        register,
-        default_row,
-        premium_row,
-    );
+    let (walk, answer) = lent::open(brought(walk), sheet, register, default_row, premium_row);
     (handed(walk), answer.map_err(refusal))
 }
 
-fn back(
+pub fn back(
     walk: Walk,
-    sheet: &Sheet,
+    sheet: &lavroudem::Sheet,
     register: &[u8],
     steps: usize,
     default_row: &mut [u64],
@@ -53,7 +54,7 @@ fn back(
 ) -> (Walk, Result<usize, Refusal>) {
     let (walk, answer) = lent::back(
         brought(walk),
-        &lend(sheet),
+        sheet,
         register,
         default_row,
         premium_row,
@@ -62,9 +63,9 @@ fn back(
     (handed(walk), answer.map_err(refusal))
 }
 
-fn value(
+pub fn value(
     walk: Walk,
-    sheet: &Sheet,
+    sheet: &lavroudem::Sheet,
     register: &[u8],
     tranche: usize,
     count: usize,
@@ -73,7 +74,7 @@ fn value(
 ) -> (Walk, Result<Value, Refusal>) {
     let (walk, answer) = lent::value(
         brought(walk),
-        &lend(sheet),
+        sheet,
         register,
         default_row,
         premium_row,
@@ -90,7 +91,7 @@ fn value(
 
 fn hedge_ratio(
     walk: Walk,
-    sheet: &Sheet,
+    sheet: &lavroudem::Sheet,
     register: &[u8],
     tranche: usize,
     count: usize,
@@ -99,7 +100,7 @@ fn hedge_ratio(
 ) -> (Walk, Result<i128, Refusal>) {
     let (walk, answer) = lent::hedge_ratio(
         brought(walk),
-        &lend(sheet),
+        sheet,
         register,
         default_row,
         premium_row,
@@ -109,29 +110,37 @@ fn hedge_ratio(
     (handed(walk), answer.map(i128::from).map_err(refusal))
 }
 
-fn forward(sheet: &Sheet, register: &[u8], steps: usize, row: &mut [u64]) -> Result<(), Refusal> {
-    lent::forward(&lend(sheet), register, row, steps).map_err(refusal)
+pub fn forward(
+    sheet: &lavroudem::Sheet,
+    register: &[u8],
+    steps: usize,
+    row: &mut [u64],
+) -> Result<(), Refusal> {
+    lent::forward(sheet, register, row, steps).map_err(refusal)
 }
 
-/// A sheet as the engine's callers bring it.
-pub fn lend(sheet: &Sheet) -> lavroudem::Sheet<'_> {
-    lavroudem::Sheet {
-        number: sheet.number,
+/// A sheet as the engine's callers bring it, with a copy of its lists.
+pub fn lend(sheet: &Sheet) -> lavroudem::Sheet {
+    let pool = Pool {
         names: sheet.names,
         steps: sheet.steps,
         tranches: sheet.tranches,
         recovery: sheet.recovery,
+        number: sheet.number,
+    };
+    let lists = Lists {
         attachments: &sheet.attachments,
         hazards: &sheet.hazards,
         discounts: &sheet.discounts,
         accruals: &sheet.accruals,
         coupons: &sheet.coupons,
-    }
+    };
+    lavroudem::Sheet::new(pool, lists)
 }
 
 fn brought(walk: Walk) -> lavroudem::Walk {
     lavroudem::Walk {
-        is_open: walk.open,
+        open: walk.open,
         number: walk.number,
         position: walk.position,
     }
@@ -139,7 +148,7 @@ fn brought(walk: Walk) -> lavroudem::Walk {
 
 fn handed(walk: lavroudem::Walk) -> Walk {
     Walk {
-        open: walk.is_open,
+        open: walk.open,
         number: walk.number,
         position: walk.position,
     }

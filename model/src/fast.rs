@@ -252,11 +252,11 @@ fn check_for_walk(
     let no_walk = !walk.open || walk.number != sheet.number || walk.position > sheet.steps;
     refuse_if(no_walk, Refusal::NoWalk)?;
     fill_losses(sheet, &mut losses[..row_length(sheet)]);
-    let soiled = is_soiled(sheet, losses, default_row, premium_row, walk.position);
-    refuse_if(soiled, Refusal::Soiled)
+    let over = is_over_ceiling(sheet, losses, default_row, premium_row, walk.position);
+    refuse_if(over, Refusal::OverCeiling)
 }
 
-fn is_soiled(
+fn is_over_ceiling(
     sheet: &Sheet,
     losses: &[u64; ROOM],
     default_row: &[u64],
@@ -301,7 +301,10 @@ fn check_after_pool(sheet: &Sheet, register: &[u8], row_fault: bool) -> Result<(
     refuse_if(length_fault, Refusal::Length)?;
     refuse_if(sheet.recovery > B, Refusal::Recovery)?;
     let rising = sheet.attachments.windows(2).all(|pair| pair[0] < pair[1]);
-    refuse_if(!rising || above(&sheet.attachments, B), Refusal::Cuts)?;
+    refuse_if(
+        !rising || above(&sheet.attachments, B),
+        Refusal::Attachments,
+    )?;
     refuse_if(above(&sheet.hazards, B), Refusal::Hazard)?;
     let discount_fault = any(&sheet.discounts, |discount| discount == 0 || discount > B);
     refuse_if(discount_fault, Refusal::Discount)?;

@@ -11,8 +11,6 @@
 //! - [`walk`]: the calls with everything lent to them and all their refusals
 //! - [`commands`]: the commands of a deck, by byte and by word
 //! - [`deck`]: the command deck and its printed listing
-//! - [`text`]: a deck as text, and back
-//! - [`table`]: a deck and its listing as a table for people
 //! - [`natural`]: whole numbers of any size
 //! - [`exact`]: unrounded values by brute force over lists of moves
 //! - [`trials`]: the trial entries that the engine's program runs
@@ -38,8 +36,6 @@ pub mod random;
 pub mod refusal;
 pub mod register;
 pub mod sheet;
-pub mod table;
-pub mod text;
 pub mod tree;
 pub mod trials;
 pub mod walk;

@@ -1,13 +1,14 @@
 //! The refusals and their numbers (document 01, "Refusals in order").
 
-/// Variants keep document 01's own words, so that tables can be compared.
+/// Variants have the engine's names; [`Refusal::word`] gives document 01's
+/// own words, so that tables can be compared.
 #[derive(Clone, Copy, Debug, PartialEq, Eq)]
 pub enum Refusal {
     Pool = 1,
     Length = 2,
     Recovery = 3,
-    /// About attachment points.
-    Cuts = 4,
+    /// "Cuts" in document 01.
+    Attachments = 4,
     Hazard = 5,
     Discount = 6,
     Accrual = 7,
@@ -15,7 +16,8 @@ pub enum Refusal {
     Withdrawn = 9,
     Unissued = 10,
     NoWalk = 11,
-    Soiled = 12,
+    /// "Soiled" in document 01.
+    OverCeiling = 12,
     OutOfSteps = 13,
     OffTree = 14,
     FlatHedge = 15,
@@ -32,7 +34,7 @@ impl Refusal {
         Refusal::Pool,
         Refusal::Length,
         Refusal::Recovery,
-        Refusal::Cuts,
+        Refusal::Attachments,
         Refusal::Hazard,
         Refusal::Discount,
         Refusal::Accrual,
@@ -40,7 +42,7 @@ impl Refusal {
         Refusal::Withdrawn,
         Refusal::Unissued,
         Refusal::NoWalk,
-        Refusal::Soiled,
+        Refusal::OverCeiling,
         Refusal::OutOfSteps,
         Refusal::OffTree,
         Refusal::FlatHedge,
@@ -60,7 +62,7 @@ impl Refusal {
             Refusal::Pool => "pool",
             Refusal::Length => "length",
             Refusal::Recovery => "recovery",
-            Refusal::Cuts => "cuts",
+            Refusal::Attachments => "cuts",
             Refusal::Hazard => "hazard",
             Refusal::Discount => "discount",
             Refusal::Accrual => "accrual",
@@ -68,7 +70,7 @@ impl Refusal {
             Refusal::Withdrawn => "withdrawn",
             Refusal::Unissued => "unissued",
             Refusal::NoWalk => "no walk",
-            Refusal::Soiled => "soiled",
+            Refusal::OverCeiling => "soiled",
             Refusal::OutOfSteps => "out of steps",
             Refusal::OffTree => "off tree",
             Refusal::FlatHedge => "flat hedge",

@@ -97,7 +97,7 @@ pub fn check_pool(sheet: &Sheet) -> Result<(), Refusal> {
 /// lengths to check than those of the sheet's own lists.
 pub fn check_figures(sheet: &Sheet) -> Result<(), Refusal> {
     refuse_if(above(sheet.recovery, B), Refusal::Recovery)?;
-    refuse_if(attachment_fault(sheet), Refusal::Cuts)?;
+    refuse_if(attachment_fault(sheet), Refusal::Attachments)?;
     refuse_if(hazard_fault(sheet), Refusal::Hazard)?;
     refuse_if(discount_fault(sheet), Refusal::Discount)?;
     refuse_if(accrual_fault(sheet), Refusal::Accrual)?;

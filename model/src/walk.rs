@@ -174,8 +174,8 @@ fn check_for_walk(
     let no_walk = !walk.open || walk.number != sheet.number || walk.position > sheet.steps;
     refuse_if(no_walk, Refusal::NoWalk)?;
     let rows = read_rows(default_row, premium_row);
-    let soiled = tree::first_over_ceiling(sheet, &rows, walk.position).is_some();
-    refuse_if(soiled, Refusal::Soiled)
+    let over = tree::first_over_ceiling(sheet, &rows, walk.position).is_some();
+    refuse_if(over, Refusal::OverCeiling)
 }
 
 /// Checks 1 to 10, for the calls that are lent both rows.

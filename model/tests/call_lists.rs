@@ -54,7 +54,7 @@ impl Pair {
         self.default_row.len() == length && self.premium_row.len() == length
     }
 
-    fn is_soiled(&self, sheet: &Sheet, position: usize) -> bool {
+    fn is_over_ceiling(&self, sheet: &Sheet, position: usize) -> bool {
         let widened = |row: &[u64]| row.iter().map(|&entry| u128::from(entry)).collect();
         let rows = Rows {
             default_row: widened(&self.default_row),
@@ -203,9 +203,9 @@ impl<'a> Run<'a> {
             Some((opened, steps)) if opened == subject => sheet.steps - steps,
             _ => return Err(Refusal::NoWalk),
         };
-        // Rows that were kept are never soiled.
-        if !self.rows_kept && lent.is_soiled(sheet, position) {
-            return Err(Refusal::Soiled);
+        // Rows that were kept are never over their ceilings.
+        if !self.rows_kept && lent.is_over_ceiling(sheet, position) {
+            return Err(Refusal::OverCeiling);
         }
         Ok(position)
     }
@@ -262,49 +262,33 @@ impl<'a> Run<'a> {
 
     /// The call itself, and what its answer must be in itself.
     fn perform(&mut self, call: Call, lent: &mut Pair) -> Result<(), Refusal> {
+        let register = &mut self.register;
+        let sheet = |subject: usize| &self.subjects[subject].sheet;
+        let (d, a) = (&mut lent.default_row, &mut lent.premium_row);
         match call {
-            Call::Issue(number) => issue(&mut self.register, number),
-            Call::Withdraw(number) => withdraw(&mut self.register, number),
+            Call::Issue(number) => issue(register, number),
+            Call::Withdraw(number) => withdraw(register, number),
             Call::Open(subject) => {
-                let (walk, answer) = walk::open(
-                    self.walk,
-                    &self.subjects[subject].sheet,
-                    &self.register,
-                    &mut lent.default_row,
-                    &mut lent.premium_row,
-                );
+                let (walk, answer) = walk::open(self.walk, sheet(subject), register, d, a);
                 self.walk = walk;
                 answer
             }
             Call::Back(subject, steps) => {
-                let (walk, answer) = walk::back(
-                    self.walk,
-                    &self.subjects[subject].sheet,
-                    &self.register,
-                    steps,
-                    &mut lent.default_row,
-                    &mut lent.premium_row,
-                );
+                let (walk, answer) = walk::back(self.walk, sheet(subject), register, steps, d, a);
                 self.walk = walk;
                 assert!(answer.is_err() || answer == Ok(walk.position));
                 answer.map(|_| ())
             }
             Call::Value(subject, tranche, count) => {
-                let sheet = &self.subjects[subject].sheet;
-                let (walk, answer) = walk::value(
-                    self.walk,
-                    sheet,
-                    &self.register,
-                    tranche,
-                    count,
-                    &lent.default_row,
-                    &lent.premium_row,
-                );
+                let sheet = sheet(subject);
+                let (walk, answer) = walk::value(self.walk, sheet, register, tranche, count, d, a);
                 assert_eq!(walk, self.walk);
                 let value = answer?;
                 let here = place(sheet, tranche, count);
-                assert_eq!(value.default, u128::from(lent.default_row[here]));
-                assert_eq!(value.premium, u128::from(lent.premium_row[here]));
+                assert_eq!(
+                    (value.default, value.premium),
+                    (d[here].into(), a[here].into())
+                );
                 let gain = 10_000_000 * value.default as i128;
                 let cost = i128::from(sheet.coupons[tranche]) * value.premium as i128;
                 assert_eq!(value.net, gain - cost);

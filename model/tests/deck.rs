@@ -3,107 +3,71 @@
 
 mod common;
 
+use common::desk::{Call, Desk};
 use common::{plain_sheet, Random, B};
-use lavroudem_model::deck::listing;
+use lavroudem_model::commands::{
+    decode, encode, BACK, COUPON, CUT, DELTA, FORWARD, HAZARD, ISSUE, OPEN, POOL, STEP, VALUE,
+    WITHDRAW,
+};
+use lavroudem_model::deck::{listing, CALLS};
 use lavroudem_model::refusal::Refusal;
-use lavroudem_model::register;
 use lavroudem_model::sheet::Sheet;
 use lavroudem_model::tree::{default_leg, distribution, net_value, premium_leg, roll_back, Rows};
-use lavroudem_model::walk::{self, row_length, Walk};
 use lavroudem_model::worked;
 use std::io::Write;
 use std::process::{Command, Stdio};
 
-// One function for each command, with operands of the width they have.
+/// A function for each command.
+macro_rules! commands {
+    ($($name:ident $byte:ident($($operand:ident),*);)*) => {
+        $(fn $name($($operand: u64),*) -> Vec<u8> {
+            written($byte, &[$($operand),*])
+        })*
+    };
+}
 
-fn pool(names: u8, steps: u16, tranches: u8, recovery: u32, number: u8) -> Vec<u8> {
-    let mut bytes = vec![0x01, names];
-    bytes.extend(steps.to_le_bytes());
-    bytes.push(tranches);
-    bytes.extend(recovery.to_le_bytes());
-    bytes.push(number);
+commands! {
+    pool POOL(names, steps, tranches, recovery, number);
+    cut CUT(point);
+    hazard HAZARD(chance);
+    step STEP(discount, accrual);
+    coupon COUPON(rate);
+    issue ISSUE(number);
+    withdraw WITHDRAW(number);
+    open OPEN();
+    back BACK(steps);
+    value VALUE(tranche, count);
+    delta DELTA(tranche, count);
+    forward FORWARD(steps, count);
+}
+
+/// An operand that its width cannot hold is a mistake of the test.
+fn written(byte: u8, operands: &[u64]) -> Vec<u8> {
+    let bytes = encode(byte, operands);
+    assert_eq!(decode(&bytes).unwrap().operands(), operands);
     bytes
-}
-
-fn with_figure(command: u8, figure: u32) -> Vec<u8> {
-    let mut bytes = vec![command];
-    bytes.extend(figure.to_le_bytes());
-    bytes
-}
-
-fn cut(point: u32) -> Vec<u8> {
-    with_figure(0x02, point)
-}
-
-fn hazard(chance: u32) -> Vec<u8> {
-    with_figure(0x03, chance)
-}
-
-fn step(discount: u32, accrual: u32) -> Vec<u8> {
-    let mut bytes = with_figure(0x04, discount);
-    bytes.extend(accrual.to_le_bytes());
-    bytes
-}
-
-fn coupon(coupon: u32) -> Vec<u8> {
-    with_figure(0x05, coupon)
-}
-
-fn issue(number: u8) -> Vec<u8> {
-    vec![0x06, number]
-}
-
-fn withdraw(number: u8) -> Vec<u8> {
-    vec![0x07, number]
-}
-
-fn open() -> Vec<u8> {
-    vec![0x08]
-}
-
-fn back(steps: u16) -> Vec<u8> {
-    let [low, high] = steps.to_le_bytes();
-    vec![0x09, low, high]
-}
-
-fn value(tranche: u8, count: u8) -> Vec<u8> {
-    vec![0x0A, tranche, count]
-}
-
-fn delta(tranche: u8, count: u8) -> Vec<u8> {
-    vec![0x0B, tranche, count]
-}
-
-fn forward(steps: u16, count: u8) -> Vec<u8> {
-    let [low, high] = steps.to_le_bytes();
-    vec![0x0C, low, high, count]
-}
-
-/// The figures of the trials all fit the operands.
-fn narrow(figure: u64) -> u32 {
-    u32::try_from(figure).unwrap()
 }
 
 fn pool_of(sheet: &Sheet) -> Vec<u8> {
     pool(
-        sheet.names as u8,
-        sheet.steps as u16,
-        sheet.tranches as u8,
-        narrow(sheet.recovery),
-        sheet.number,
+        sheet.names as u64,
+        sheet.steps as u64,
+        sheet.tranches as u64,
+        sheet.recovery,
+        sheet.number.into(),
     )
 }
 
 /// The sheet's lists, each as its commands.
 fn lists_of(sheet: &Sheet) -> [Vec<Vec<u8>>; 4] {
-    let each = |list: &[u64], command: fn(u32) -> Vec<u8>| -> Vec<Vec<u8>> {
-        list.iter().map(|&figure| command(narrow(figure))).collect()
+    let each = |list: &[u64], command: fn(u64) -> Vec<u8>| -> Vec<Vec<u8>> {
+        list.iter().map(|&figure| command(figure)).collect()
     };
     let steps = sheet.discounts.iter().zip(&sheet.accruals);
     [
         each(&sheet.attachments, cut),
         each(&sheet.hazards, hazard),
-        steps.map(|(&v, &a)| step(narrow(v), narrow(a))).collect(),
+        steps.map(|(&v, &a)| step(v, a)).collect(),
         each(&sheet.coupons, coupon),
     ]
 }
@@ -119,9 +83,22 @@ fn printed(deck: &[u8]) -> String {
     String::from_utf8(listing(deck)).unwrap()
 }
 
-/// What is printed by commands after those of a sheet.
-fn printed_after(sheet: &Sheet, commands: &[Vec<u8>]) -> String {
-    printed(&[sheet_deck(sheet), commands.concat()].concat())
+/// Commands, each with the line that it prints; an empty one where it prints
+/// nothing.
+type Lines<'a> = [(Vec<u8>, &'a str)];
+
+/// What the commands print after those of a sheet or other bytes.
+fn assert_lines(start: &[u8], lines: &Lines) {
+    let mut deck = start.to_vec();
+    let mut expected = String::new();
+    for (command, line) in lines {
+        deck.extend(command);
+        if !line.is_empty() {
+            expected += line;
+            expected += "\n";
+        }
+    }
+    assert_eq!(printed(&deck), expected);
 }
 
 fn worked_calls() -> Vec<Vec<u8>> {
@@ -186,6 +163,69 @@ fn worked_deck_is_these_bytes() {
     assert_eq!(listing(&bytes), WORKED_LISTING.as_bytes());
 }
 
+/// Each command with operands that fill their widths, and its bytes by hand,
+/// the low byte of an operand first.
+const BY_HAND: [(&str, &[u64], &[u8]); 12] = [
+    (
+        "pool",
+        &[0xF1, 0x0102, 0xF2, 0x0304_0506, 0xF3],
+        &[0x01, 0xF1, 0x02, 0x01, 0xF2, 0x06, 0x05, 0x04, 0x03, 0xF3],
+    ),
+    ("cut", &[0x0102_0304], &[0x02, 0x04, 0x03, 0x02, 0x01]),
+    ("hazard", &[0xA102_0304], &[0x03, 0x04, 0x03, 0x02, 0xA1]),
+    (
+        "step",
+        &[0x0102_0304, 0x0506_0708],
+        &[0x04, 0x04, 0x03, 0x02, 0x01, 0x08, 0x07, 0x06, 0x05],
+    ),
+    ("coupon", &[0xF102_0304], &[0x05, 0x04, 0x03, 0x02, 0xF1]),
+    ("issue", &[0xF1], &[0x06, 0xF1]),
+    ("withdraw", &[0xF2], &[0x07, 0xF2]),
+    ("open", &[], &[0x08]),
+    ("back", &[0x0102], &[0x09, 0x02, 0x01]),
+    ("value", &[0xF1, 0xF2], &[0x0A, 0xF1, 0xF2]),
+    ("delta", &[0xF3, 0xF4], &[0x0B, 0xF3, 0xF4]),
+    ("forward", &[0xF102, 0xF3], &[0x0C, 0x02, 0xF1, 0xF3]),
+];
+
+/// One table encodes and decodes, so that neither may be judged by the other.
+#[test]
+fn every_command_is_written_and_read_as_by_hand() {
+    for (word, operands, bytes) in BY_HAND {
+        assert_eq!(encode(bytes[0], operands), bytes, "{word}");
+        // What follows a command is not its own.
+        let read = decode(&[bytes, &[0xEE]].concat()).unwrap();
+        assert_eq!(read.operands(), operands, "{word}");
+        assert_eq!(read.length, bytes.len(), "{word}");
+        assert_eq!(read.command.word, word);
+    }
+}
+
+/// A tree of 258 steps, which need two bytes.
+#[test]
+fn high_byte_of_steps_is_read() {
+    let sheet = [
+        0x01, 0x01, 0x02, 0x01, 0x01, 0x00, 0x00, 0x00, 0x00, 0x07, // pool 1 258 1 0 7
+        0x02, 0x00, 0x00, 0x00, 0x00, // cut 0
+        0x02, 0x00, 0xCA, 0x9A, 0x3B, // cut 1000000000
+        0x03, 0x00, 0x00, 0x00, 0x00, // hazard 0
+        0x05, 0x00, 0x00, 0x00, 0x00, // coupon 0
+        0x05, 0x00, 0x00, 0x00, 0x00, // coupon 0
+    ];
+    // step 1000000000 1
+    let step = [0x04, 0x00, 0xCA, 0x9A, 0x3B, 0x01, 0x00, 0x00, 0x00];
+    let lines = [
+        (step.repeat(258), ""),
+        (vec![0x06, 0x07], "issue 0"),
+        (vec![0x08], "open 0"),
+        (vec![0x09, 0x03, 0x01], "back 13"),  // 259
+        (vec![0x09, 0x00, 0x01], "back 0 2"), // 256
+        (vec![0x0C, 0x02, 0x01, 0x00], "forward 0 1000000000"), // 258
+        (vec![0x0C, 0x03, 0x01, 0x00], "forward 13"), // 259
+    ];
+    assert_lines(&sheet, &lines);
+}
+
 /// Runs the program with a deck on its standard input.
 fn run_program(deck: &[u8]) -> Vec<u8> {
     let mut program = Command::new(env!("CARGO_BIN_EXE_listing"))
@@ -218,7 +258,7 @@ fn sheet_commands_print_nothing() {
     assert_eq!(printed(&sheet_deck(&worked::sheet())), "");
     assert_eq!(printed(&sheet_deck(&plain_sheet(125, 3_650, 8))), "");
     // Nor are their figures looked at.
-    let most = u32::MAX;
+    let most = u64::from(u32::MAX);
     let commands = [
         pool(255, 65_535, 255, most, 255),
         cut(most),
@@ -389,42 +429,34 @@ fn deck_refusal_stops_the_run_and_keeps_earlier_lines() {
 /// all the same.
 #[test]
 fn deck_without_a_pool_is_refused_its_pool() {
-    let calls = [
-        issue(0),
-        open(),
-        back(0),
-        value(0, 0),
-        delta(0, 0),
-        forward(0, 0),
-        issue(0),
-        withdraw(0),
-        withdraw(0),
-        issue(0),
-        open(),
+    let lines = [
+        (issue(0), "issue 0"),
+        (open(), "open 1"),
+        (back(0), "back 1"),
+        (value(0, 0), "value 1"),
+        (delta(0, 0), "delta 1"),
+        (forward(0, 0), "forward 1"),
+        (issue(0), "issue 17"),
+        (withdraw(0), "withdraw 0"),
+        (withdraw(0), "withdraw 9"),
+        (issue(0), "issue 9"),
+        (open(), "open 1"),
     ];
-    let expected = "\
-issue 0
-open 1
-back 1
-value 1
-delta 1
-forward 1
-issue 17
-withdraw 0
-withdraw 9
-issue 9
-open 1
-";
-    assert_eq!(printed(&calls.concat()), expected);
+    assert_lines(&[], &lines);
     // Nor do lists make a pool.
-    let lists = lists_of(&worked::sheet()).concat().concat();
-    assert_eq!(printed(&[lists, calls.concat()].concat()), expected);
+    assert_lines(&lists_of(&worked::sheet()).concat().concat(), &lines);
+}
+
+/// Every call that brings the sheet prints the same refusal.
+fn assert_all_print(start: &[u8], refusal: Refusal) {
+    let calls = [open(), back(0), value(0, 0), delta(0, 0), forward(0, 0)].concat();
+    let words = ["open", "back", "value", "delta", "forward"];
+    let lines = words.map(|word| format!("{word} {}\n", refusal.number()));
+    assert_eq!(printed(&[start, &calls].concat()), lines.concat());
 }
 
 #[test]
 fn pool_beyond_its_limits_is_refused_in_every_call() {
-    let calls = [open(), back(0), value(0, 0), delta(0, 0), forward(0, 0)].concat();
-    let expected = "open 1\nback 1\nvalue 1\ndelta 1\nforward 1\n";
     for (names, steps, tranches) in [
         (0, 2, 1),
         (126, 2, 1),
@@ -437,8 +469,7 @@ fn pool_beyond_its_limits_is_refused_in_every_call() {
         (2, 2, 255),
         (255, 65_535, 255),
     ] {
-        let deck = [pool(names, steps, tranches, 0, 0), calls.clone()].concat();
-        assert_eq!(printed(&deck), expected);
+        assert_all_print(&pool(names, steps, tranches, 0, 0), Refusal::Pool);
     }
 }
 
@@ -476,200 +507,137 @@ fn sheet_commands_may_come_in_any_order() {
 fn sheet_commands_may_follow_calls() {
     let sheet = worked::sheet();
     let [cuts, hazards, steps, coupons] = lists_of(&sheet).map(|list| list.concat());
-    let deck = [
-        issue(7),
-        open(), // no pool yet
-        pool_of(&sheet),
-        open(),
-        cuts,
-        hazards,
-        open(),
-        forward(0, 0),
-        steps,
-        coupons[..5].to_vec(),
-        open(), // one coupon short
-        coupons[5..].to_vec(),
-        back(1), // whole, but not open
-        open(),
-        back(1),
-        value(0, 0),
-        hazard(0), // one hazard too long, for good
-        value(0, 0),
-        back(1),
-        delta(0, 0),
-        forward(1, 0),
-        open(),
-        withdraw(7),
-        open(),
-        hazard(0),
-        open(),
+    let lines = [
+        (issue(7), "issue 0"),
+        (open(), "open 1"), // no pool yet
+        (pool_of(&sheet), ""),
+        (open(), "open 2"),
+        (cuts, ""),
+        (hazards, ""),
+        (open(), "open 2"),
+        (forward(0, 0), "forward 2"),
+        (steps, ""),
+        (coupons[..5].to_vec(), ""),
+        (open(), "open 2"), // one coupon short
+        (coupons[5..].to_vec(), ""),
+        (back(1), "back 11"), // whole, but not open
+        (open(), "open 0"),
+        (back(1), "back 0 1"),
+        (value(0, 0), "value 0 27000000 243000000 27000000000000"),
+        (hazard(0), ""), // one hazard too long, for good
+        (value(0, 0), "value 2"),
+        (back(1), "back 2"),
+        (delta(0, 0), "delta 2"),
+        (forward(1, 0), "forward 2"),
+        (open(), "open 2"),
+        (withdraw(7), "withdraw 0"),
+        (open(), "open 2"),
+        (hazard(0), ""),
+        (open(), "open 2"),
     ];
-    let expected = "\
-issue 0
-open 1
-open 2
-open 2
-forward 2
-open 2
-back 11
-open 0
-back 0 1
-value 0 27000000 243000000 27000000000000
-value 2
-back 2
-delta 2
-forward 2
-open 2
-withdraw 0
-open 2
-open 2
-";
-    assert_eq!(printed(&deck.concat()), expected);
+    assert_lines(&[], &lines);
 }
 
 #[test]
 fn negative_net_value_is_printed_with_a_minus() {
     let mut sheet = worked::sheet();
     sheet.coupons = vec![10_000_000, 10_000_000];
-    let calls = [issue(7), open(), back(2), value(0, 0), value(1, 0)];
+    let start = [issue(7), open(), back(2)].concat();
+    let at_root = |sheet: &Sheet, tranche: &str, index: &str| {
+        let lines = [
+            (start.clone(), "issue 0\nopen 0\nback 0 0"),
+            (value(0, 0), tranche),
+            (value(1, 0), index),
+        ];
+        assert_lines(&sheet_deck(sheet), &lines);
+    };
     // 10^7 x (54300000 - 218700000) and 10^7 x (59700000 - 805500000)
-    let expected = "\
-issue 0
-open 0
-back 0 0
-value 0 54300000 218700000 -1644000000000000
-value 0 59700000 805500000 -7458000000000000
-";
-    assert_eq!(printed_after(&sheet, &calls), expected);
+    at_root(
+        &sheet,
+        "value 0 54300000 218700000 -1644000000000000",
+        "value 0 59700000 805500000 -7458000000000000",
+    );
     sheet.hazards = vec![0, 0];
     sheet.discounts = vec![1_000_000_000, 1_000_000_000];
-    let expected = "\
-issue 0
-open 0
-back 0 0
-value 0 0 300000000 -3000000000000000
-value 0 0 1000000000 -10000000000000000
-";
-    assert_eq!(printed_after(&sheet, &calls), expected);
+    at_root(
+        &sheet,
+        "value 0 0 300000000 -3000000000000000",
+        "value 0 0 1000000000 -10000000000000000",
+    );
 }
 
 /// The first default takes all of the tranche, so a second moves nothing.
 #[test]
 fn ratio_of_zero_is_printed_without_a_sign() {
-    let calls = [issue(7), open(), back(2), delta(0, 1), delta(1, 1)];
-    let expected = "issue 0\nopen 0\nback 0 0\ndelta 0 0\ndelta 0 1000000\n";
-    assert_eq!(printed_after(&worked::sheet(), &calls), expected);
+    let lines = [
+        (issue(7), "issue 0"),
+        (open(), "open 0"),
+        (back(2), "back 0 0"),
+        (delta(0, 1), "delta 0 0"),
+        (delta(1, 1), "delta 0 1000000"),
+    ];
+    assert_lines(&sheet_deck(&worked::sheet()), &lines);
 }
 
 #[test]
 fn forward_refuses_the_count_last() {
-    let calls = [
-        forward(2, 3),
-        issue(7),
-        forward(0, 0),
-        forward(0, 1),
-        forward(1, 0),
-        forward(1, 1),
-        forward(2, 2),
-        forward(2, 3),
-        forward(2, 255),
-        forward(3, 0),
-        forward(3, 3),
-        forward(65_535, 255),
-        withdraw(7),
-        forward(3, 3),
+    let lines = [
+        (forward(2, 3), "forward 10"),
+        (issue(7), "issue 0"),
+        (forward(0, 0), "forward 0 1000000000"),
+        (forward(0, 1), "forward 0 0"),
+        (forward(1, 0), "forward 0 900000000"),
+        (forward(1, 1), "forward 0 100000000"),
+        (forward(2, 2), "forward 0 20000000"),
+        (forward(2, 3), "forward 14"),
+        (forward(2, 255), "forward 14"),
+        (forward(3, 0), "forward 13"),
+        (forward(3, 3), "forward 13"),
+        (forward(65_535, 255), "forward 13"),
+        (withdraw(7), "withdraw 0"),
+        (forward(3, 3), "forward 9"),
     ];
-    let expected = "\
-forward 10
-issue 0
-forward 0 1000000000
-forward 0 0
-forward 0 900000000
-forward 0 100000000
-forward 0 20000000
-forward 14
-forward 14
-forward 13
-forward 13
-forward 13
-withdraw 0
-forward 9
-";
-    assert_eq!(printed_after(&worked::sheet(), &calls), expected);
+    assert_lines(&sheet_deck(&worked::sheet()), &lines);
 }
 
 /// A walk belongs to the number of the pool; the register to all numbers.
 #[test]
 fn calls_print_their_refusals() {
-    let calls = [
-        open(),
-        back(0),
-        value(0, 0),
-        delta(0, 0),
-        withdraw(7),
-        issue(8),
-        withdraw(8),
-        issue(8),
-        issue(7),
-        issue(7),
-        back(0),
-        value(0, 0),
-        delta(0, 0),
-        open(),
-        back(3),
-        back(0),
-        back(1),
-        back(2),
-        back(65_535),
-        value(2, 0),
-        value(0, 3),
-        value(1, 2),
-        delta(2, 0),
-        delta(0, 2),
-        delta(255, 255),
-        open(),
-        back(2),
-        back(1),
-        withdraw(7),
-        open(),
-        back(0),
-        delta(0, 0),
+    let lines = [
+        (open(), "open 10"),
+        (back(0), "back 10"),
+        (value(0, 0), "value 10"),
+        (delta(0, 0), "delta 10"),
+        (withdraw(7), "withdraw 10"),
+        (issue(8), "issue 0"),
+        (withdraw(8), "withdraw 0"),
+        (issue(8), "issue 9"),
+        (issue(7), "issue 0"),
+        (issue(7), "issue 17"),
+        (back(0), "back 11"),
+        (value(0, 0), "value 11"),
+        (delta(0, 0), "delta 11"),
+        (open(), "open 0"),
+        (back(3), "back 13"),
+        (back(0), "back 0 2"),
+        (back(1), "back 0 1"),
+        (back(2), "back 13"),
+        (back(65_535), "back 13"),
+        (value(2, 0), "value 14"),
+        (value(0, 3), "value 14"),
+        (value(1, 2), "value 0 0 0 0"),
+        (delta(2, 0), "delta 14"),
+        (delta(0, 2), "delta 14"),
+        (delta(255, 255), "delta 14"),
+        (open(), "open 0"),
+        (back(2), "back 0 0"),
+        (back(1), "back 13"),
+        (withdraw(7), "withdraw 0"),
+        (open(), "open 9"),
+        (back(0), "back 9"),
+        (delta(0, 0), "delta 9"),
     ];
-    let expected = "\
-open 10
-back 10
-value 10
-delta 10
-withdraw 10
-issue 0
-withdraw 0
-issue 9
-issue 0
-issue 17
-back 11
-value 11
-delta 11
-open 0
-back 13
-back 0 2
-back 0 1
-back 13
-back 13
-value 14
-value 14
-value 0 0 0 0
-delta 14
-delta 14
-delta 14
-open 0
-back 0 0
-back 13
-withdraw 0
-open 9
-back 9
-delta 9
-";
-    assert_eq!(printed_after(&worked::sheet(), &calls), expected);
+    assert_lines(&sheet_deck(&worked::sheet()), &lines);
 }
 
 #[test]
@@ -677,8 +645,8 @@ fn faults_of_the_sheet_print_their_refusals() {
     type Fault = fn(&mut Sheet);
     let faults: [(Refusal, Fault); 10] = [
         (Refusal::Recovery, |s| s.recovery = B + 1),
-        (Refusal::Cuts, |s| s.attachments[1] = 0),
-        (Refusal::Cuts, |s| s.attachments[1] = B + 1),
+        (Refusal::Attachments, |s| s.attachments[1] = 0),
+        (Refusal::Attachments, |s| s.attachments[1] = B + 1),
         (Refusal::Hazard, |s| s.hazards[1] = u64::from(u32::MAX)),
         (Refusal::Discount, |s| s.discounts[0] = 0),
         (Refusal::Discount, |s| s.discounts[0] = B + 1),
@@ -690,12 +658,7 @@ fn faults_of_the_sheet_print_their_refusals() {
     for (refusal, fault) in faults {
         let mut sheet = worked::sheet();
         fault(&mut sheet);
-        let number = refusal.number();
-        let calls = [open(), back(0), value(0, 0), delta(0, 0), forward(0, 0)];
-        let expected = format!(
-            "open {number}\nback {number}\nvalue {number}\ndelta {number}\nforward {number}\n"
-        );
-        assert_eq!(printed_after(&sheet, &calls), expected);
+        assert_all_print(&sheet_deck(&sheet), refusal);
     }
 }
 
@@ -704,7 +667,7 @@ fn faults_of_the_sheet_print_their_refusals() {
 /// steps, 0 after 30. The tranche still earns its first coupons.
 #[test]
 fn ratio_can_be_off_scale_and_then_flat() {
-    for (steps, line) in [(29, "delta 16\n"), (30, "delta 15\n")] {
+    for (steps, line) in [(29, "delta 16"), (30, "delta 15")] {
         let mut sheet = plain_sheet(1, steps, 1);
         sheet.number = 7;
         sheet.attachments = vec![0, 300_000_000];
@@ -713,9 +676,13 @@ fn ratio_can_be_off_scale_and_then_flat() {
         sheet.accruals = vec![1; steps];
         sheet.accruals[0] = B;
         sheet.coupons = vec![10_000_000, 0];
-        let calls = [issue(7), open(), back(steps as u16), delta(0, 0)];
-        let expected = format!("issue 0\nopen 0\nback 0 0\n{line}");
-        assert_eq!(printed_after(&sheet, &calls), expected);
+        let lines = [
+            (issue(7), "issue 0"),
+            (open(), "open 0"),
+            (back(steps as u64), "back 0 0"),
+            (delta(0, 0), line),
+        ];
+        assert_lines(&sheet_deck(&sheet), &lines);
     }
 }
 
@@ -732,131 +699,52 @@ fn largest_sheet_runs_from_a_deck() {
         let premium = premium_leg(&sheet, &rows, tranche, count);
         let net = net_value(&sheet, &rows, tranche, count);
         expected += &format!("value 0 {default} {premium} {net}\n");
-        calls.push(value(tranche as u8, count as u8));
+        calls.push(value(tranche as u64, count as u64));
     }
     let row = distribution(&sheet, 3_650);
     expected += &format!("forward 0 {}\nforward 0 {}\n", row[0], row[125]);
     calls.extend([forward(3_650, 0), forward(3_650, 125)]);
-    assert_eq!(printed_after(&sheet, &calls), expected);
+    let deck = [sheet_deck(&sheet), calls.concat()].concat();
+    assert_eq!(printed(&deck), expected);
 }
 
-/// The same calls made by hand: each line says what the call answers.
-struct ByHand {
-    sheet: Sheet,
-    register: Vec<u8>,
-    walk: Walk,
-    default_row: Vec<u64>,
-    premium_row: Vec<u64>,
+/// A random call made by hand: its command, and the line that it must print.
+fn by_hand(desk: &mut Desk, random: &mut Random) -> (Vec<u8>, String) {
+    desk.number = match random.between(0, 3) {
+        0 => desk.sheet.number.wrapping_add(1),
+        _ => desk.sheet.number,
+    };
+    let tranche = random.between(0, desk.sheet.tranches as u64 + 1);
+    let count = random.between(0, desk.sheet.names as u64 + 1);
+    let steps = random.between(0, 3);
+    (desk.tranche, desk.count) = (tranche as usize, count as usize);
+    (desk.back_by, desk.forward_by) = (steps as usize, steps as usize);
+    let number = desk.number.into();
+    let (call, word, command) = match random.between(0, 30) {
+        0..=2 => (Call::Issue, "issue", issue(number)),
+        3 => (Call::Withdraw, "withdraw", withdraw(number)),
+        4..=6 => (Call::Open, "open", open()),
+        7..=15 => (Call::Back, "back", back(steps)),
+        16..=22 => (Call::Value, "value", value(tranche, count)),
+        23..=27 => (Call::Ratio, "delta", delta(tranche, count)),
+        _ => (Call::Forward, "forward", forward(steps, count)),
+    };
+    let mut answer = desk.ask(&CALLS, call);
+    if call == Call::Forward {
+        // The call fills a row; its command asks for one count.
+        let chance = desk.forward_row.get(desk.count).ok_or(Refusal::OffTree);
+        answer = answer.and(chance.map(|&chance| vec![chance.into()]));
+    }
+    (command, by_hand_line(word, answer))
 }
 
-impl ByHand {
-    fn new(sheet: &Sheet) -> ByHand {
-        ByHand {
-            sheet: sheet.clone(),
-            register: register::blank(),
-            walk: Walk::fresh(),
-            default_row: vec![0; row_length(sheet)],
-            premium_row: vec![0; row_length(sheet)],
-        }
-    }
-
-    /// A random call as its command, and the line it must print.
-    fn any_call(&mut self, random: &mut Random) -> (Vec<u8>, String) {
-        let number = match random.between(0, 3) {
-            0 => self.sheet.number.wrapping_add(1),
-            _ => self.sheet.number,
-        };
-        let tranche = random.between(0, self.sheet.tranches as u64 + 1) as u8;
-        let count = random.between(0, self.sheet.names as u64 + 1) as u8;
-        let steps = random.between(0, 3) as u16;
-        let ByHand {
-            sheet,
-            register,
-            walk,
-            default_row,
-            premium_row,
-        } = self;
-        match random.between(0, 30) {
-            0..=2 => {
-                let answer = register::issue(register, number);
-                (issue(number), by_hand_line("issue", answer, |()| vec![]))
-            }
-            3 => {
-                let answer = register::withdraw(register, number);
-                let line = by_hand_line("withdraw", answer, |()| vec![]);
-                (withdraw(number), line)
-            }
-            4..=6 => {
-                let (next, answer) = walk::open(*walk, sheet, register, default_row, premium_row);
-                *walk = next;
-                (open(), by_hand_line("open", answer, |()| vec![]))
-            }
-            7..=15 => {
-                let by = usize::from(steps);
-                let (next, answer) =
-                    walk::back(*walk, sheet, register, by, default_row, premium_row);
-                *walk = next;
-                let line = by_hand_line("back", answer, |position| vec![position.to_string()]);
-                (back(steps), line)
-            }
-            16..=22 => {
-                let (_, answer) = walk::value(
-                    *walk,
-                    sheet,
-                    register,
-                    usize::from(tranche),
-                    usize::from(count),
-                    default_row,
-                    premium_row,
-                );
-                let line = by_hand_line("value", answer, |value| {
-                    vec![
-                        value.default.to_string(),
-                        value.premium.to_string(),
-                        value.net.to_string(),
-                    ]
-                });
-                (value(tranche, count), line)
-            }
-            23..=27 => {
-                let (_, answer) = walk::hedge_ratio(
-                    *walk,
-                    sheet,
-                    register,
-                    usize::from(tranche),
-                    usize::from(count),
-                    default_row,
-                    premium_row,
-                );
-                let line = by_hand_line("delta", answer, |ratio| vec![ratio.to_string()]);
-                (delta(tranche, count), line)
-            }
-            _ => {
-                let mut row = vec![0; sheet.names + 1];
-                let answer = walk::forward(sheet, register, usize::from(steps), &mut row);
-                let chance = row.get(usize::from(count)).ok_or(Refusal::OffTree);
-                let answer = answer.and(chance);
-                let line = by_hand_line("forward", answer, |chance| vec![chance.to_string()]);
-                (forward(steps, count), line)
-            }
-        }
-    }
-}
-
-fn by_hand_line<T>(
-    word: &str,
-    answer: Result<T, Refusal>,
-    fields: impl Fn(T) -> Vec<String>,
-) -> String {
-    let mut parts = vec![word.to_string()];
-    match answer {
-        Ok(answer) => {
-            parts.push("0".to_string());
-            parts.extend(fields(answer));
-        }
-        Err(refusal) => parts.push(refusal.number().to_string()),
-    }
-    parts.join(" ") + "\n"
+fn by_hand_line(word: &str, answer: Result<Vec<i128>, Refusal>) -> String {
+    let numbers = match answer {
+        Ok(figures) => [vec![0], figures].concat(),
+        Err(refusal) => vec![refusal.number().into()],
+    };
+    let fields: Vec<String> = numbers.iter().map(|number| format!(" {number}")).collect();
+    format!("{word}{}\n", fields.concat())
 }
 
 #[test]
@@ -866,11 +754,11 @@ fn listing_says_what_the_calls_answer() {
     let mut negative = 0;
     for _ in 0..500 {
         let sheet = random.small_sheet();
-        let mut by_hand = ByHand::new(&sheet);
         let mut deck = sheet_deck(&sheet);
+        let mut desk = Desk::fresh(sheet, 0);
         let mut expected = String::new();
         for _ in 0..60 {
-            let (command, line) = by_hand.any_call(&mut random);
+            let (command, line) = by_hand(&mut desk, &mut random);
             accepted += usize::from(line.split_whitespace().nth(1) == Some("0"));
             negative += usize::from(line.contains('-'));
             deck.extend(command);

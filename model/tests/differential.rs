@@ -5,44 +5,18 @@
 
 mod common;
 
+use common::desk::Call::{self, Back, Forward, Issue, Open, Ratio, Value, Withdraw};
+use common::desk::Desk;
 use common::{Random, B};
 use lavroudem::OpenWalk;
 use lavroudem_model::cash::default_payment;
-use lavroudem_model::deck::{Calls, CALLS};
+use lavroudem_model::deck::CALLS;
 use lavroudem_model::engine;
 use lavroudem_model::refusal::Refusal;
-use lavroudem_model::register::{self, LIVE, UNISSUED};
+use lavroudem_model::register::{LIVE, UNISSUED};
 use lavroudem_model::sheet::Sheet;
 use lavroudem_model::tree::{default_ceiling, place, premium_ceiling};
-use lavroudem_model::walk::{self, row_length, Walk};
 use std::collections::BTreeMap;
-
-/// Everything the calls are lent or told.
-#[derive(Clone, Debug, PartialEq)]
-struct Desk {
-    sheet: Sheet,
-    register: Vec<u8>,
-    walk: Walk,
-    default_row: Vec<u64>,
-    premium_row: Vec<u64>,
-    forward_row: Vec<u64>,
-    steps: usize,
-    tranche: usize,
-    count: usize,
-}
-
-#[derive(Clone, Copy, Debug, PartialEq, Eq, PartialOrd, Ord)]
-enum Call {
-    Issue,
-    Withdraw,
-    Open,
-    Back,
-    Value,
-    Ratio,
-    Forward,
-}
-
-use Call::{Back, Forward, Issue, Open, Ratio, Value, Withdraw};
 
 /// The calls with the numbers that each can answer (document 01, "Refusals
 /// in order").
@@ -63,66 +37,7 @@ const ANSWERS: [(Call, &[u8]); 7] = [
 type Answer = (u8, Vec<i128>);
 
 fn said(answer: Result<Vec<i128>, Refusal>) -> Answer {
-    match answer {
-        Ok(figures) => (0, figures),
-        Err(refusal) => (refusal.number(), vec![]),
-    }
-}
-
-/// The calls of one side.
-struct Side {
-    issue: fn(&mut [u8], u8) -> Result<(), Refusal>,
-    withdraw: fn(&mut [u8], u8) -> Result<(), Refusal>,
-    calls: Calls,
-}
-
-const MODEL: Side = Side {
-    issue: register::issue,
-    withdraw: register::withdraw,
-    calls: CALLS,
-};
-
-const ENGINE: Side = Side {
-    issue: engine::issue,
-    withdraw: engine::withdraw,
-    calls: engine::CALLS,
-};
-
-fn ask_one(side: &Side, desk: &mut Desk, call: Call) -> Answer {
-    let (walk, sheet, number) = (desk.walk, &desk.sheet, desk.sheet.number);
-    let (steps, tranche, count) = (desk.steps, desk.tranche, desk.count);
-    let (d, a) = (&mut desk.default_row, &mut desk.premium_row);
-    let (register, calls) = (&mut desk.register, side.calls);
-    let (walk, answer) = match call {
-        Issue => (walk, (side.issue)(register, number).map(|()| vec![])),
-        Withdraw => (walk, (side.withdraw)(register, number).map(|()| vec![])),
-        Open => {
-            let (walk, answer) = (calls.open)(walk, sheet, register, d, a);
-            (walk, answer.map(|()| vec![]))
-        }
-        Back => {
-            let (walk, answer) = (calls.back)(walk, sheet, register, steps, d, a);
-            (walk, answer.map(|position| vec![position as i128]))
-        }
-        Value => {
-            let (walk, answer) = (calls.value)(walk, sheet, register, tranche, count, d, a);
-            (walk, answer.map(figures))
-        }
-        Ratio => {
-            let (walk, answer) = (calls.hedge_ratio)(walk, sheet, register, tranche, count, d, a);
-            (walk, answer.map(|ratio| vec![ratio]))
-        }
-        Forward => {
-            let answer = (calls.forward)(sheet, register, steps, &mut desk.forward_row);
-            (walk, answer.map(|()| vec![]))
-        }
-    };
-    desk.walk = walk;
-    said(answer)
-}
-
-fn figures(value: walk::Value) -> Vec<i128> {
-    vec![value.default as i128, value.premium as i128, value.net]
+    answer.map_or_else(|refusal| (refusal.number(), vec![]), |figures| (0, figures))
 }
 
 /// How often each call gave each number.
@@ -132,8 +47,8 @@ type Tally = BTreeMap<(Call, u8), usize>;
 fn ask(desk: &mut Desk, call: Call, tally: &mut Tally) -> Answer {
     let before = desk.clone();
     let mut other = desk.clone();
-    let answer = ask_one(&MODEL, desk, call);
-    let engine_answer = ask_one(&ENGINE, &mut other, call);
+    let answer = said(desk.ask(&CALLS, call));
+    let engine_answer = said(other.ask(&engine::CALLS, call));
     assert_eq!(engine_answer, answer, "{call:?} on {before:?}");
     assert_eq!(&other, desk, "{call:?} on {before:?}");
     *tally.entry((call, answer.0)).or_default() += 1;
@@ -144,26 +59,25 @@ fn ask(desk: &mut Desk, call: Call, tally: &mut Tally) -> Answer {
 
 /// A sheet that is accepted, issued, opened and taken some way back.
 fn walked(random: &mut Random, sheet: Sheet, tally: &mut Tally) -> Desk {
-    let length = row_length(&sheet);
-    let mut desk = Desk {
-        register: register::blank(),
-        walk: Walk::fresh(),
-        default_row: vec![u64::MAX; length],
-        premium_row: vec![random.draw(); length],
-        forward_row: vec![random.draw(); sheet.names + 1],
-        steps: random.below(sheet.steps + 1),
-        tranche: random.below(sheet.tranches + 1),
-        count: random.below(sheet.names + 1),
-        sheet,
-    };
+    let mut desk = Desk::fresh(sheet, u64::MAX);
+    desk.premium_row.fill(random.draw());
+    desk.forward_row.fill(random.draw());
+    let steps = random.below(desk.sheet.steps + 1);
+    told_steps(&mut desk, steps);
+    desk.tranche = random.below(desk.sheet.tranches + 1);
+    desk.count = random.below(desk.sheet.names + 1);
     assert_eq!(ask(&mut desk, Issue, tally).0, 0);
     assert_eq!(ask(&mut desk, Open, tally).0, 0);
     assert_eq!(ask(&mut desk, Back, tally).0, 0);
     desk
 }
 
+/// Back and forward are told the same.
+fn told_steps(desk: &mut Desk, steps: usize) {
+    (desk.back_by, desk.forward_by) = (steps, steps);
+}
+
 fn operands(random: &mut Random, desk: &mut Desk) {
-    let sheet = &desk.sheet;
     let wild = random.draw() as usize;
     let pick = |random: &mut Random, most: usize| match random.below(12) {
         0 => wild,
@@ -171,9 +85,9 @@ fn operands(random: &mut Random, desk: &mut Desk) {
         2 => most,
         _ => random.below(most.min(4_000) + 1),
     };
-    desk.steps = pick(random, desk.walk.position);
-    desk.tranche = pick(random, sheet.tranches);
-    desk.count = pick(random, sheet.names);
+    told_steps(desk, pick(random, desk.walk.position));
+    desk.tranche = pick(random, desk.sheet.tranches);
+    desk.count = pick(random, desk.sheet.names);
 }
 
 /// A call that goes on well is asked for more often.
@@ -404,7 +318,7 @@ fn the_largest_tree() {
     let sheet = random.sheet(125, 3_650, 8);
     let mut desk = walked(&mut random, sheet, &mut tally);
     while desk.walk.position > 0 {
-        desk.steps = random.between(1, 900).min(desk.walk.position as u64) as usize;
+        desk.back_by = random.between(1, 900).min(desk.walk.position as u64) as usize;
         assert_eq!(ask(&mut desk, Back, &mut tally).0, 0);
     }
     for tranche in 0..=8 {
@@ -412,7 +326,7 @@ fn the_largest_tree() {
         assert_eq!(ask(&mut desk, Value, &mut tally).0, 0);
         ask(&mut desk, Ratio, &mut tally);
     }
-    desk.steps = 3_650;
+    desk.forward_by = 3_650;
     assert_eq!(ask(&mut desk, Forward, &mut tally).0, 0);
 }
 
@@ -425,11 +339,12 @@ fn open_walks() {
         let sheet = random.small_sheet();
         let mut desk = walked(&mut random, sheet, &mut tally);
         let sheet = desk.sheet.clone();
-        let mut own = engine::lend(&sheet).open(&desk.register).unwrap();
-        own.back(&desk.register, desk.steps).unwrap();
+        let lent = engine::lend(&sheet);
+        let mut own = lent.open(&desk.register).unwrap();
+        own.back(&desk.register, desk.back_by).unwrap();
         for _ in 0..4 {
             operands(&mut random, &mut desk);
-            let moved = own.back(&desk.register, desk.steps);
+            let moved = own.back(&desk.register, desk.back_by);
             let (number, _) = ask(&mut desk, Back, &mut tally);
             assert_eq!(moved.map_or_else(|refusal| refusal.number(), |_| 0), number);
             assert_eq!(own.position(), desk.walk.position);

@@ -17,7 +17,7 @@ const CALLS: [(&str, &str); 2] = [
         "register/src/lib.rt: issue",
         "let answer = judge_issue(register, number);
          match answer {
-             Answer::Accepted => store(register, number, LIVE),
+             WriteAnswer::Accepted => store(register, number, LIVE),
              _ => {}
          }
          answer",
@@ -26,7 +26,7 @@ const CALLS: [(&str, &str); 2] = [
         "register/src/lib.rt: withdraw",
         "let answer = judge_withdraw(register, number);
          match answer {
-             Answer::Accepted => store(register, number, CLEARED),
+             WriteAnswer::Accepted => store(register, number, CLEARED),
              _ => {}
          }
          answer",
@@ -59,17 +59,23 @@ const HANDS_ON: [(&str, &[&str]); 8] = [
         &[
             "issue(register)",
             "withdraw(register)",
-            "calls::forward(register)",
+            "rooms::forward(register)",
             "call(register)",
         ],
     ),
-    ("turns/src/lib.rt: obey", &["orders::act(register)"]),
-    ("turns/src/lib.rt: turn", &["obey(register)"]),
-    ("runs/src/lib.rt: all", &["turns::turn(register)"]),
+    ("execution/src/lib.rt: obey", &["orders::act(register)"]),
+    ("execution/src/lib.rt: execute", &["obey(register)"]),
+    (
+        "interpreter/src/lib.rt: interpret",
+        &["execution::execute(register)"],
+    ),
 ];
 
 /// The one function of the engine with a register of its own.
-const OWNS: (&str, &str) = ("deck/src/lib.rt: run", "runs::all(&mut register)");
+const OWNS: (&str, &str) = (
+    "deck/src/lib.rt: run",
+    "interpreter::interpret(&mut register)",
+);
 
 /// The trials are a caller, and make up registers of their own.
 const TRIALS: &str = "trials/";

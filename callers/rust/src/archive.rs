@@ -6,17 +6,28 @@
 //! are those of `callers/c/lavroudem.h`.
 
 use crate::refusal::Refusal;
-use crate::sheet::Sheet;
+use crate::sheet::{Pool, Sheet};
 use crate::walk::{Value, Walk};
 
-/// A sheet's figures; its lists go beside it.
+/// Where a list stands among the numbers of a sheet. One that reaches past
+/// their end is a shorter list.
 #[repr(C)]
-struct Pool {
-    names: usize,
-    steps: usize,
-    tranches: usize,
-    recovery: u64,
-    number: u8,
+#[derive(Clone, Copy, Debug, PartialEq, Eq, Hash)]
+pub(crate) struct Span {
+    pub(crate) at: usize,
+    pub(crate) length: usize,
+}
+
+/// A sheet as the archive takes it; its numbers go beside it.
+#[repr(C)]
+#[derive(Clone, Copy, Debug, PartialEq, Eq, Hash)]
+pub(crate) struct Layout {
+    pub(crate) pool: Pool,
+    pub(crate) attachments: Span,
+    pub(crate) hazards: Span,
+    pub(crate) discounts: Span,
+    pub(crate) accruals: Span,
+    pub(crate) coupons: Span,
 }
 
 // In each answer `refusal` is 0 or the number of a refusal, and after a
@@ -54,6 +65,69 @@ struct Hedged {
 extern "C" {
     fn lavroudem_issue(register: *mut u8, register_length: usize, number: u8) -> u8;
     fn lavroudem_withdraw(register: *mut u8, register_length: usize, number: u8) -> u8;
+    fn lavroudem_open(
+        walk: Walk,
+        sheet: Layout,
+        numbers: *const u64,
+        numbers_length: usize,
+        register: *const u8,
+        register_length: usize,
+        defaults: *mut u64,
+        defaults_length: usize,
+        premiums: *mut u64,
+        premiums_length: usize,
+    ) -> Opened;
+    fn lavroudem_back(
+        walk: Walk,
+        sheet: Layout,
+        numbers: *const u64,
+        numbers_length: usize,
+        register: *const u8,
+        register_length: usize,
+        defaults: *mut u64,
+        defaults_length: usize,
+        premiums: *mut u64,
+        premiums_length: usize,
+        steps: usize,
+    ) -> Moved;
+    fn lavroudem_value(
+        walk: Walk,
+        sheet: Layout,
+        numbers: *const u64,
+        numbers_length: usize,
+        register: *const u8,
+        register_length: usize,
+        defaults: *const u64,
+        defaults_length: usize,
+        premiums: *const u64,
+        premiums_length: usize,
+        tranche: usize,
+        count: usize,
+    ) -> Valued;
+    fn lavroudem_hedge_ratio(
+        walk: Walk,
+        sheet: Layout,
+        numbers: *const u64,
+        numbers_length: usize,
+        register: *const u8,
+        register_length: usize,
+        defaults: *const u64,
+        defaults_length: usize,
+        premiums: *const u64,
+        premiums_length: usize,
+        tranche: usize,
+        count: usize,
+    ) -> Hedged;
+    fn lavroudem_forward(
+        sheet: Layout,
+        numbers: *const u64,
+        numbers_length: usize,
+        register: *const u8,
+        register_length: usize,
+        row: *mut u64,
+        row_length: usize,
+        steps: usize,
+    ) -> u8;
     fn lavroudem_deck_room(deck_length: usize) -> usize;
     fn lavroudem_run_deck(
         deck: *const u8,
@@ -61,113 +135,6 @@ extern "C" {
         out: *mut u8,
         out_length: usize,
     ) -> usize;
-}
-
-/// Declares functions that take a sheet and a register, between their own
-/// first and last parameters.
-macro_rules! declare_with_sheet {
-    ($(fn $name:ident(
-        $($first:ident: $first_type:ty,)* [sheet, register] $(, $last:ident: $last_type:ty)*
-    ) -> $answer:ty;)*) => {
-        extern "C" {
-            $(fn $name(
-                $($first: $first_type,)*
-                pool: Pool,
-                attachments: *const u64,
-                attachments_length: usize,
-                hazards: *const u64,
-                hazards_length: usize,
-                discounts: *const u64,
-                discounts_length: usize,
-                accruals: *const u64,
-                accruals_length: usize,
-                coupons: *const u64,
-                coupons_length: usize,
-                register: *const u8,
-                register_length: usize,
-                $($last: $last_type,)*
-            ) -> $answer;)*
-        }
-    };
-}
-
-/// Calls one of them.
-macro_rules! call_with_sheet {
-    ($name:ident($($first:ident,)* [$sheet:ident, $register:ident] $(, $last:expr)* $(,)?)) => {
-        $name(
-            $($first,)*
-            pool($sheet),
-            $sheet.attachments.as_ptr(),
-            $sheet.attachments.len(),
-            $sheet.hazards.as_ptr(),
-            $sheet.hazards.len(),
-            $sheet.discounts.as_ptr(),
-            $sheet.discounts.len(),
-            $sheet.accruals.as_ptr(),
-            $sheet.accruals.len(),
-            $sheet.coupons.as_ptr(),
-            $sheet.coupons.len(),
-            $register.as_ptr(),
-            $register.len(),
-            $($last,)*
-        )
-    };
-}
-
-declare_with_sheet! {
-    fn lavroudem_open(
-        walk: Walk,
-        [sheet, register],
-        defaults: *mut u64,
-        defaults_length: usize,
-        premiums: *mut u64,
-        premiums_length: usize
-    ) -> Opened;
-    fn lavroudem_back(
-        walk: Walk,
-        [sheet, register],
-        defaults: *mut u64,
-        defaults_length: usize,
-        premiums: *mut u64,
-        premiums_length: usize,
-        steps: usize
-    ) -> Moved;
-    fn lavroudem_value(
-        walk: Walk,
-        [sheet, register],
-        defaults: *const u64,
-        defaults_length: usize,
-        premiums: *const u64,
-        premiums_length: usize,
-        tranche: usize,
-        count: usize
-    ) -> Valued;
-    fn lavroudem_hedge_ratio(
-        walk: Walk,
-        [sheet, register],
-        defaults: *const u64,
-        defaults_length: usize,
-        premiums: *const u64,
-        premiums_length: usize,
-        tranche: usize,
-        count: usize
-    ) -> Hedged;
-    fn lavroudem_forward(
-        [sheet, register],
-        row: *mut u64,
-        row_length: usize,
-        steps: usize
-    ) -> u8;
-}
-
-fn pool(sheet: &Sheet) -> Pool {
-    Pool {
-        names: sheet.names,
-        steps: sheet.steps,
-        tranches: sheet.tranches,
-        recovery: sheet.recovery,
-        number: sheet.number,
-    }
 }
 
 /// The figures of an accepted call, or the refusal.
@@ -210,14 +177,18 @@ pub fn open(
     // SAFETY: each pointer and length are those of one slice, and only the
     // two rows are written, which are lent for that and so overlap nothing.
     let opened = unsafe {
-        call_with_sheet!(lavroudem_open(
+        lavroudem_open(
             walk,
-            [sheet, register],
+            sheet.layout,
+            sheet.numbers.as_ptr(),
+            sheet.numbers.len(),
+            register.as_ptr(),
+            register.len(),
             defaults.as_mut_ptr(),
             defaults.len(),
             premiums.as_mut_ptr(),
             premiums.len(),
-        ))
+        )
     };
     (opened.walk, answer(opened.refusal, ()))
 }
@@ -235,15 +206,19 @@ pub fn back(
 ) -> (Walk, Result<usize, Refusal>) {
     // SAFETY: as in `open`.
     let moved = unsafe {
-        call_with_sheet!(lavroudem_back(
+        lavroudem_back(
             walk,
-            [sheet, register],
+            sheet.layout,
+            sheet.numbers.as_ptr(),
+            sheet.numbers.len(),
+            register.as_ptr(),
+            register.len(),
             defaults.as_mut_ptr(),
             defaults.len(),
             premiums.as_mut_ptr(),
             premiums.len(),
             steps,
-        ))
+        )
     };
     (moved.walk, answer(moved.refusal, moved.position))
 }
@@ -262,16 +237,20 @@ pub fn value(
 ) -> (Walk, Result<Value, Refusal>) {
     // SAFETY: each pointer and length are those of one slice; all are read.
     let valued = unsafe {
-        call_with_sheet!(lavroudem_value(
+        lavroudem_value(
             walk,
-            [sheet, register],
+            sheet.layout,
+            sheet.numbers.as_ptr(),
+            sheet.numbers.len(),
+            register.as_ptr(),
+            register.len(),
             defaults.as_ptr(),
             defaults.len(),
             premiums.as_ptr(),
             premiums.len(),
             tranche,
             count,
-        ))
+        )
     };
     let value = Value {
         default_leg: valued.default_leg,
@@ -296,16 +275,20 @@ pub fn hedge_ratio(
 ) -> (Walk, Result<i64, Refusal>) {
     // SAFETY: as in `value`.
     let hedged = unsafe {
-        call_with_sheet!(lavroudem_hedge_ratio(
+        lavroudem_hedge_ratio(
             walk,
-            [sheet, register],
+            sheet.layout,
+            sheet.numbers.as_ptr(),
+            sheet.numbers.len(),
+            register.as_ptr(),
+            register.len(),
             defaults.as_ptr(),
             defaults.len(),
             premiums.as_ptr(),
             premiums.len(),
             tranche,
             count,
-        ))
+        )
     };
     (hedged.walk, answer(hedged.refusal, hedged.ratio))
 }
@@ -321,12 +304,16 @@ pub fn forward(
 ) -> Result<(), Refusal> {
     // SAFETY: as in `open`; only the row is written.
     let refusal = unsafe {
-        call_with_sheet!(lavroudem_forward(
-            [sheet, register],
+        lavroudem_forward(
+            sheet.layout,
+            sheet.numbers.as_ptr(),
+            sheet.numbers.len(),
+            register.as_ptr(),
+            register.len(),
             row.as_mut_ptr(),
             row.len(),
             steps,
-        ))
+        )
     };
     answer(refusal, ())
 }

@@ -4,29 +4,32 @@
 //! the proved engine; this crate only hands things over.
 //!
 //! ```
-//! use lavroudem::{Refusal, Sheet};
+//! use lavroudem::{Lists, Pool, Refusal, Sheet};
 //!
-//! let sheet = Sheet {
-//!     number: 7,
+//! let pool = Pool {
 //!     names: 2,
 //!     steps: 2,
 //!     tranches: 1,
 //!     recovery: 400_000_000,
+//!     number: 7,
+//! };
+//! let lists = Lists {
 //!     attachments: &[0, 300_000_000],
 //!     hazards: &[100_000_000, 200_000_000],
 //!     discounts: &[1_000_000_000, 900_000_000],
 //!     accruals: &[0, 1_000_000_000],
 //!     coupons: &[1_000_000, 500_000],
 //! };
+//! let sheet = Sheet::new(pool, lists);
 //! let mut register = lavroudem::BLANK_REGISTER;
-//! lavroudem::issue(&mut register, sheet.number)?;
+//! lavroudem::issue(&mut register, pool.number)?;
 //!
 //! let mut walk = sheet.open(&register)?;
 //! while walk.back(&register, 1)? > 0 {}
 //! assert_eq!(walk.value(&register, 0, 0)?.default_leg, 54_300_000);
 //! assert_eq!(walk.hedge_ratio(&register, 0, 0)?, 724_386);
 //!
-//! lavroudem::withdraw(&mut register, sheet.number)?;
+//! lavroudem::withdraw(&mut register, pool.number)?;
 //! assert_eq!(walk.value(&register, 0, 0), Err(Refusal::Withdrawn));
 //! # Ok::<(), Refusal>(())
 //! ```
@@ -34,8 +37,8 @@
 //! Nothing needs to be checked before a call: the engine judges all that it
 //! is lent and names the first fault, and a refused call changes nothing.
 //!
-//! [`Sheet::open`] gives an [`OpenWalk`], which keeps the sheet, the walk and
-//! its rows together. The module [`lent`] has the calls as the engine has
+//! A [`Sheet`] keeps its numbers. [`Sheet::open`] gives an [`OpenWalk`], which
+//! keeps the sheet, the walk and its rows together. The module [`lent`] has the calls as the engine has
 //! them, for programs that keep their own rows.
 //!
 //! Units: money is in billionths of the pool; recovery, hazards and discounts
@@ -51,7 +54,7 @@ mod walk;
 pub use archive::{issue, withdraw};
 pub use open_walk::OpenWalk;
 pub use refusal::Refusal;
-pub use sheet::Sheet;
+pub use sheet::{Lists, Pool, Sheet};
 pub use walk::{Value, Walk};
 
 /// The calls over lent lists, as the engine has them.

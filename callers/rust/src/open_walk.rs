@@ -10,18 +10,17 @@ use crate::walk::{Value, Walk};
 /// may be withdrawn at any time.
 #[derive(Clone, Debug, PartialEq, Eq)]
 pub struct OpenWalk<'a> {
-    sheet: Sheet<'a>,
+    sheet: &'a Sheet,
     walk: Walk,
     defaults: Vec<u64>,
     premiums: Vec<u64>,
 }
 
 impl<'a> OpenWalk<'a> {
-    pub(crate) fn open(sheet: Sheet<'a>, register: &[u8]) -> Result<OpenWalk<'a>, Refusal> {
+    pub(crate) fn open(sheet: &'a Sheet, register: &[u8]) -> Result<OpenWalk<'a>, Refusal> {
         let mut defaults = vec![0; sheet.row_length()];
         let mut premiums = defaults.clone();
-        let (walk, answer) =
-            lent::open(Walk::FRESH, &sheet, register, &mut defaults, &mut premiums);
+        let (walk, answer) = lent::open(Walk::FRESH, sheet, register, &mut defaults, &mut premiums);
         answer.map(|()| OpenWalk {
             sheet,
             walk,
@@ -35,7 +34,7 @@ impl<'a> OpenWalk<'a> {
     pub fn back(&mut self, register: &[u8], steps: usize) -> Result<usize, Refusal> {
         let (walk, answer) = lent::back(
             self.walk,
-            &self.sheet,
+            self.sheet,
             register,
             &mut self.defaults,
             &mut self.premiums,
@@ -50,7 +49,7 @@ impl<'a> OpenWalk<'a> {
     pub fn value(&self, register: &[u8], tranche: usize, count: usize) -> Result<Value, Refusal> {
         let (_, answer) = lent::value(
             self.walk,
-            &self.sheet,
+            self.sheet,
             register,
             &self.defaults,
             &self.premiums,
@@ -71,7 +70,7 @@ impl<'a> OpenWalk<'a> {
     ) -> Result<i64, Refusal> {
         let (_, answer) = lent::hedge_ratio(
             self.walk,
-            &self.sheet,
+            self.sheet,
             register,
             &self.defaults,
             &self.premiums,
@@ -86,8 +85,8 @@ impl<'a> OpenWalk<'a> {
         self.walk.position
     }
 
-    pub fn sheet(&self) -> &Sheet<'a> {
-        &self.sheet
+    pub fn sheet(&self) -> &'a Sheet {
+        self.sheet
     }
 
     /// The default legs, tranche by tranche, the index last, each by default

@@ -52,7 +52,7 @@ refusals! {
     /// Above 1.
     Recovery, 3, "recovery";
     /// Attachment points are not strictly rising, or above 1.
-    Cuts, 4, "cuts";
+    Attachments, 4, "cuts";
     /// One is above 1.
     Hazard, 5, "hazard";
     /// One is 0 or above 1.
@@ -68,7 +68,7 @@ refusals! {
     /// The walk is closed, of another number, or beyond the last step.
     NoWalk, 11, "no walk";
     /// An entry of the rows is over its ceiling.
-    Soiled, 12, "soiled";
+    OverCeiling, 12, "soiled";
     /// Back beyond the root, or forward beyond the last step.
     OutOfSteps, 13, "out of steps";
     /// There is no such tranche or default count.

@@ -1,21 +1,27 @@
 //! A sheet as a caller brings it.
 
+use crate::archive::{Layout, Span};
 use crate::lent;
 use crate::open_walk::OpenWalk;
 use crate::refusal::Refusal;
 use crate::{MAX_NAMES, MAX_TRANCHES};
 
-/// A sheet: its figures, and its lists, which are lent. Any content may be
-/// brought; each call checks it.
-#[derive(Clone, Copy, Debug, PartialEq, Eq)]
-pub struct Sheet<'a> {
-    /// The sheet number, by which the register knows it.
-    pub number: u8,
+/// A sheet's figures but for its lists.
+#[repr(C)]
+#[derive(Clone, Copy, Debug, PartialEq, Eq, Hash)]
+pub struct Pool {
     pub names: usize,
     pub steps: usize,
     /// The index not counted. As a tranche number this is the index.
     pub tranches: usize,
     pub recovery: u64,
+    /// The sheet number, by which the register knows it.
+    pub number: u8,
+}
+
+/// The lists of a sheet.
+#[derive(Clone, Copy, Debug, Default, PartialEq, Eq, Hash)]
+pub struct Lists<'a> {
     /// tranches + 1 of them, strictly rising. Tranche j lies between entries
     /// j and j + 1.
     pub attachments: &'a [u64],
@@ -31,10 +37,57 @@ pub struct Sheet<'a> {
     pub coupons: &'a [u64],
 }
 
-impl<'a> Sheet<'a> {
+/// A sheet, with numbers of its own. It may have any content; each call
+/// checks it.
+#[derive(Clone, Debug, PartialEq, Eq, Hash)]
+pub struct Sheet {
+    pub(crate) layout: Layout,
+    /// The lists, one after the other.
+    pub(crate) numbers: Vec<u64>,
+}
+
+impl Sheet {
+    /// Copies the lists. One of another length than the pool asks for is the
+    /// engine's to refuse.
+    pub fn new(pool: Pool, lists: Lists) -> Sheet {
+        let mut numbers = Vec::new();
+        let mut append = |list: &[u64]| {
+            let at = numbers.len();
+            numbers.extend_from_slice(list);
+            Span {
+                at,
+                length: list.len(),
+            }
+        };
+        let layout = Layout {
+            pool,
+            attachments: append(lists.attachments),
+            hazards: append(lists.hazards),
+            discounts: append(lists.discounts),
+            accruals: append(lists.accruals),
+            coupons: append(lists.coupons),
+        };
+        Sheet { layout, numbers }
+    }
+
+    pub fn pool(&self) -> &Pool {
+        &self.layout.pool
+    }
+
+    pub fn lists(&self) -> Lists<'_> {
+        let list = |span: &Span| &self.numbers[span.at..span.at + span.length];
+        Lists {
+            attachments: list(&self.layout.attachments),
+            hazards: list(&self.layout.hazards),
+            discounts: list(&self.layout.discounts),
+            accruals: list(&self.layout.accruals),
+            coupons: list(&self.layout.coupons),
+        }
+    }
+
     /// Starts a walk at the last step, with rows of its own. Refusals 1 to
     /// 10.
-    pub fn open(self, register: &[u8]) -> Result<OpenWalk<'a>, Refusal> {
+    pub fn open(&self, register: &[u8]) -> Result<OpenWalk<'_>, Refusal> {
         OpenWalk::open(self, register)
     }
 
@@ -50,18 +103,18 @@ impl<'a> Sheet<'a> {
     /// and the index, by default count from 0 to names. 0 for a sheet with
     /// more names or tranches than there may be, which no call accepts.
     pub fn row_length(&self) -> usize {
-        if self.tranches > MAX_TRANCHES {
+        if self.pool().tranches > MAX_TRANCHES {
             return 0;
         }
-        (self.tranches + 1) * self.forward_row_length()
+        (self.pool().tranches + 1) * self.forward_row_length()
     }
 
     /// The length of the row that [`lent::forward`] fills; 0 for a sheet with
     /// more names than there may be.
     pub fn forward_row_length(&self) -> usize {
-        if self.names > MAX_NAMES {
+        if self.pool().names > MAX_NAMES {
             return 0;
         }
-        self.names + 1
+        self.pool().names + 1
     }
 }

@@ -4,7 +4,7 @@
 #[repr(C)]
 #[derive(Clone, Copy, Debug, Default, PartialEq, Eq, Hash)]
 pub struct Walk {
-    pub is_open: bool,
+    pub open: bool,
     /// The number of the sheet that was opened.
     pub number: u8,
     /// The step at which the rows stand: the last one after an open, 0 at
@@ -15,7 +15,7 @@ pub struct Walk {
 impl Walk {
     /// What a caller starts with: closed, all zeros.
     pub const FRESH: Walk = Walk {
-        is_open: false,
+        open: false,
         number: 0,
         position: 0,
     };

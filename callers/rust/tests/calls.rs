@@ -4,12 +4,19 @@ use lavroudem::*;
 use std::thread;
 
 /// The small sheet of the paper.
-const SHEET: Sheet = Sheet {
-    number: 7,
+fn sheet() -> Sheet {
+    Sheet::new(POOL, LISTS)
+}
+
+const POOL: Pool = Pool {
     names: 2,
     steps: 2,
     tranches: 1,
     recovery: 400_000_000,
+    number: 7,
+};
+
+const LISTS: Lists = Lists {
     attachments: &[0, 300_000_000],
     hazards: &[100_000_000, 200_000_000],
     discounts: &[1_000_000_000, 900_000_000],
@@ -19,14 +26,14 @@ const SHEET: Sheet = Sheet {
 
 fn issued() -> [u8; REGISTER_LENGTH] {
     let mut register = BLANK_REGISTER;
-    issue(&mut register, SHEET.number).unwrap();
+    issue(&mut register, POOL.number).unwrap();
     register
 }
 
 /// Everything that the calls are lent.
 #[derive(Clone, Debug, PartialEq)]
 struct Lent {
-    sheet: Sheet<'static>,
+    sheet: Sheet,
     register: Vec<u8>,
     walk: Walk,
     defaults: Vec<u64>,
@@ -36,13 +43,14 @@ struct Lent {
 
 /// One step from the root.
 fn lent() -> Lent {
+    let sheet = sheet();
     let mut lent = Lent {
-        sheet: SHEET,
         register: issued().to_vec(),
         walk: Walk::FRESH,
-        defaults: vec![u64::MAX; SHEET.row_length()],
-        premiums: vec![u64::MAX; SHEET.row_length()],
-        row: vec![5; SHEET.forward_row_length()],
+        defaults: vec![u64::MAX; sheet.row_length()],
+        premiums: vec![u64::MAX; sheet.row_length()],
+        row: vec![5; sheet.forward_row_length()],
+        sheet,
     };
     assert_eq!(open(&mut lent), Ok(()));
     assert_eq!(back(&mut lent), Ok(()));
@@ -157,14 +165,17 @@ fn rows_of_another_length() {
 
 #[test]
 fn lists_of_another_length() {
-    let spoils: [fn(&mut Lent); 5] = [
-        |l| l.sheet.attachments = &[],
-        |l| l.sheet.hazards = &[0],
-        |l| l.sheet.discounts = &[1, 1, 1],
-        |l| l.sheet.accruals = &[1],
-        |l| l.sheet.coupons = &[0, 0, 0],
+    let spoils: [fn(&mut Lists); 5] = [
+        |lists| lists.attachments = &[],
+        |lists| lists.hazards = &[0],
+        |lists| lists.discounts = &[1, 1, 1],
+        |lists| lists.accruals = &[1],
+        |lists| lists.coupons = &[0, 0, 0],
     ];
     for spoil in spoils {
+        let mut lists = LISTS;
+        spoil(&mut lists);
+        let spoil = |l: &mut Lent| l.sheet = Sheet::new(POOL, lists);
         refused(&WITH_ROWS, Refusal::Length, spoil);
         refused(&[forward], Refusal::Length, spoil);
     }
@@ -187,27 +198,29 @@ fn walks_and_rows_of_someone_else() {
     let later = &WITH_ROWS[1..];
     refused(later, Refusal::NoWalk, |l| l.walk = Walk::FRESH);
     refused(later, Refusal::NoWalk, |l| l.walk.position = 3);
-    refused(later, Refusal::Soiled, |l| l.defaults[0] = 300_000_001);
-    refused(later, Refusal::Soiled, |l| l.premiums[5] = u64::MAX);
+    refused(later, Refusal::OverCeiling, |l| l.defaults[0] = 300_000_001);
+    refused(later, Refusal::OverCeiling, |l| l.premiums[5] = u64::MAX);
 }
 
 #[test]
 fn an_open_walk_shows_its_rows() {
     let register = issued();
-    let mut walk = SHEET.open(&register).unwrap();
+    let sheet = sheet();
+    let mut walk = sheet.open(&register).unwrap();
     assert_eq!(walk.position(), 2);
     assert_eq!(walk.back(&register, 2), Ok(0));
     let index = walk.value(&register, 1, 0).unwrap();
     assert_eq!(index.default_leg, walk.defaults()[3]);
     assert_eq!(index.premium_leg, walk.premiums()[3]);
     assert_eq!(index.net_value, 194_250_000_000_000);
-    assert_eq!(walk.sheet(), &SHEET);
+    assert_eq!((walk.sheet().pool(), walk.sheet().lists()), (&POOL, LISTS));
 }
 
 #[test]
 fn an_open_walk_stays_where_it_is_refused() {
     let register = issued();
-    let mut walk = SHEET.open(&register).unwrap();
+    let sheet = sheet();
+    let mut walk = sheet.open(&register).unwrap();
     walk.back(&register, 1).unwrap();
     let before = walk.clone();
     assert_eq!(walk.back(&register, 2), Err(Refusal::OutOfSteps));
@@ -222,15 +235,16 @@ fn an_open_walk_stays_where_it_is_refused() {
 fn sheets_beyond_all_limits() {
     let register = issued();
     for (names, tranches) in [(usize::MAX, 1), (2, usize::MAX), (126, 8), (125, 9)] {
-        let sheet = Sheet {
+        let pool = Pool {
             names,
             tranches,
-            ..SHEET
+            ..POOL
         };
+        let sheet = Sheet::new(pool, LISTS);
         assert_eq!(sheet.open(&register).unwrap_err(), Refusal::Pool);
         assert_eq!(sheet.forward(&register, 1), Err(Refusal::Pool));
     }
-    assert_eq!(SHEET.forward(&register, 3), Err(Refusal::OutOfSteps));
+    assert_eq!(sheet().forward(&register, 3), Err(Refusal::OutOfSteps));
 }
 
 const WORKED_DECK: &[u8] = include_bytes!("../../../crates/listing/stdin");

@@ -1,7 +1,9 @@
 //! The C header and this crate give the same numbers and words, and the
-//! header declares the functions that the engine exports.
+//! header declares the functions and structs that the engine exports.
 
 use lavroudem::*;
+use std::fs;
+use std::path::Path;
 
 const HEADER: &str = include_str!("../../c/lavroudem.h");
 
@@ -41,7 +43,7 @@ fn refusals_are_the_same() {
     for number in 1..=20 {
         let refusal = Refusal::from_number(number).unwrap();
         assert_eq!(refusal.number(), number);
-        let name = refusal.word().to_uppercase().replace(' ', "_");
+        let name = screaming(&format!("{refusal:?}"));
         let entry = format!("LAVROUDEM_REFUSED_{name} = {number}");
         let found = HEADER.split([',', '\n']).any(|part| {
             let part = part.split(" /*").next().unwrap();
@@ -52,6 +54,18 @@ fn refusals_are_the_same() {
     assert_eq!(Refusal::from_number(0), None);
     assert_eq!(Refusal::from_number(21), Some(Refusal::Other(21)));
     assert_eq!(HEADER.matches("LAVROUDEM_REFUSED_").count(), 20);
+}
+
+/// `NoWalk` as C has it, `NO_WALK`.
+fn screaming(name: &str) -> String {
+    let mut text = String::new();
+    for letter in name.chars() {
+        if letter.is_uppercase() && !text.is_empty() {
+            text.push('_');
+        }
+        text.extend(letter.to_uppercase());
+    }
+    text
 }
 
 /// The header's table of words, in the order of their numbers.
@@ -69,16 +83,112 @@ fn words_are_the_same() {
 
 const EXPORTED: &str = include_str!("../../../crates/export/src/lib.rt");
 
+/// The header without its comments, its blanks as one.
+fn plain_header() -> String {
+    let mut text = String::new();
+    for part in HEADER.split("/*") {
+        text += part.split_once("*/").map_or(part, |(_, code)| code);
+    }
+    let words: Vec<&str> = text.split_whitespace().collect();
+    words.join(" ").replace("( ", "(")
+}
+
 #[test]
 fn every_exported_function_is_declared() {
-    let header = HEADER.split_whitespace().collect::<Vec<_>>().join(" ");
-    let header = header.replace("( ", "(");
+    let header = plain_header();
     let functions: Vec<&str> = EXPORTED.split("pub extern \"C\" fn ").skip(1).collect();
     for function in &functions {
         let declaration = declaration(function);
         assert!(header.contains(&declaration), "{declaration}");
     }
     assert_eq!(functions.len(), 9);
+}
+
+/// The structs of the exported functions, each in the crate that owns it.
+#[test]
+fn every_exported_struct_is_declared() {
+    let header = plain_header();
+    let sources = sources();
+    let structs = [
+        ("sheet", "Pool"),
+        ("sheet", "Span"),
+        ("sheet", "Sheet"),
+        ("walk", "Walk"),
+        ("export", "Opened"),
+        ("export", "Moved"),
+        ("export", "Valued"),
+        ("export", "Hedged"),
+    ];
+    for (owner, name) in structs {
+        let start = format!("#[repr(C)]\npub struct {name} {{");
+        let found = sources.iter().filter(|(_, text)| text.contains(&start));
+        let found: Vec<_> = found.collect();
+        let [(crate_name, text)] = found[..] else {
+            panic!("{} crates declare {name}", found.len());
+        };
+        assert_eq!(crate_name, owner, "{name}");
+        let fields = text
+            .split_once(&start)
+            .unwrap()
+            .1
+            .split_once('}')
+            .unwrap()
+            .0;
+        let declaration = struct_declaration(name, fields);
+        assert!(header.contains(&declaration), "{declaration}");
+    }
+    let defines = |rest: &&str| {
+        rest.split_once(' ')
+            .is_some_and(|(_, next)| next.starts_with('{'))
+    };
+    let defined = header.split("struct lavroudem_").skip(1).filter(defines);
+    assert_eq!(defined.count(), structs.len());
+}
+
+/// The sources of the engine, each with the name of its crate.
+fn sources() -> Vec<(String, String)> {
+    let crates = Path::new(env!("CARGO_MANIFEST_DIR")).join("../../crates");
+    let mut sources = Vec::new();
+    for folder in fs::read_dir(crates).unwrap() {
+        let folder = folder.unwrap();
+        let name = folder.file_name().into_string().unwrap();
+        let Ok(files) = fs::read_dir(folder.path().join("src")) else {
+            continue; // a crate of definitions alone
+        };
+        for file in files {
+            let text = fs::read_to_string(file.unwrap().path()).unwrap();
+            sources.push((name.clone(), text));
+        }
+    }
+    sources
+}
+
+/// The C declaration of a struct by its fields as the engine writes them.
+fn struct_declaration(name: &str, fields: &str) -> String {
+    let mut text = format!("{} {{", plain(name));
+    for line in fields.lines() {
+        let code = line
+            .split("//")
+            .next()
+            .unwrap()
+            .trim()
+            .trim_end_matches(',');
+        if let Some((field, kind)) = code.trim_start_matches("pub ").split_once(": ") {
+            text += &format!(" {} {};", plain(kind), field_called(name, field));
+        }
+    }
+    text + " };"
+}
+
+/// The header says what the numbers of an answer are.
+fn field_called<'a>(answer: &str, field: &'a str) -> &'a str {
+    match (answer, field) {
+        ("Opened" | "Moved" | "Valued" | "Hedged", "number") => "refusal",
+        ("Valued", "default") => "default_leg",
+        ("Valued", "premium") => "premium_leg",
+        ("Valued", "net") => "net_value",
+        _ => field,
+    }
 }
 
 /// The C declaration of a function as the engine writes it.
@@ -99,7 +209,6 @@ fn declaration(function: &str) -> String {
 /// The header's names are plainer here and there.
 fn called<'a>(function: &str, parameter: &'a str) -> &'a str {
     match (function, parameter) {
-        (_, "given") => "walk",
         ("lavroudem_back", "count") => "steps",
         ("lavroudem_deck_room", "bytes") => "deck_length",
         _ => parameter,
@@ -124,9 +233,14 @@ fn declared(name: &str, kind: &str) -> String {
 /// A type in C that is no slice.
 fn plain(kind: &str) -> String {
     match kind {
+        "bool" => "bool".into(),
         "u8" => "uint8_t".into(),
         "u64" => "uint64_t".into(),
+        "i64" => "int64_t".into(),
         "usize" => "size_t".into(),
-        name => format!("struct lavroudem_{}", name.to_lowercase()),
+        path => {
+            let name = path.rsplit("::").next().unwrap();
+            format!("struct lavroudem_{}", name.to_lowercase())
+        }
     }
 }

@@ -1,2 +1,2 @@
-pub mod Turns
-pub mod Going
+pub mod OneStep
+pub mod BetweenSteps

@@ -1,45 +1,104 @@
 // The rows of a walk, several steps back.
-pub mod back; // back.rt: several steps back, with lent tables
-
 ghost use mathlib.Core.Path.{_≡_};
+ghost use Prim.Native.Nat.{ℕ};
+ghost use lib.ListN.{length, getD};
+ghost use Rattle.sheet.specs.Spans.{termsIn};
 ghost use Rattle.tree.specs.Sheet.{defaultOf, premiumOf};
-ghost use Rattle.rows.specs.Rows.{sheetOf, rolledBack};
-ghost use Rattle.rows.specs.Limits.{Rollable};
-use rows::Pool;
+ghost use Rattle.rows.specs.Rows.{rowLength, rolledBack};
+ghost use Rattle.rows.specs.Rollable.{Rollable};
+use rows::step::accrue;
+use rows::step::roll_all;
+use sheet::ROW_MOST;
+use sheet::Sheet;
+use sheet::part;
+use tables::outstandings_due;
+use tables::payments;
+
+// Fills the tables of payments and, if a premium date is met, of what is outstanding, and takes both rows so many steps back.
+// The premium leg has no default cash: `none` holds zeros.
+fn walk_with_tables(
+    sheet: Sheet,
+    numbers: &[u64],
+    defaults: &mut [u64],
+    premiums: &mut [u64],
+    position: usize,
+    count: usize,
+    paid: &mut [u64],
+    left: &mut [u64],
+    none: &[u64],
+)
+    requires { ⌜ Rollable (termsIn sheet (now numbers)) (now defaults) (now premiums) position count ⌝ }
+    requires { ⌜ length (now paid) ≡ rowLength (termsIn sheet (now numbers)) ⌝ }
+    requires { ⌜ (length (now left) ≡ rowLength (termsIn sheet (now numbers))) × ((i : ℕ) → getD (now left) i 0 ≡ 0) ⌝ }
+    requires { ⌜ (length (now none) ≡ rowLength (termsIn sheet (now numbers))) × ((i : ℕ) → getD (now none) i 0 ≡ 0) ⌝ }
+    ensures { λ _. ⌜ now (defaults .exit)
+        ≡ rolledBack (termsIn sheet (now (numbers .entry))) (defaultOf (termsIn sheet (now (numbers .entry)))) position count
+        (now (defaults .entry)) ⌝ }
+    ensures { λ _. ⌜ now (premiums .exit)
+        ≡ rolledBack (termsIn sheet (now (numbers .entry))) (premiumOf (termsIn sheet (now (numbers .entry)))) position count
+        (now (premiums .entry)) ⌝ }
+{
+    let pool = sheet.pool;
+    let attachments = part(sheet.attachments, numbers);
+    let hazards = part(sheet.hazards, numbers);
+    let discounts = part(sheet.discounts, numbers);
+    let accruals = part(sheet.accruals, numbers);
+    payments(pool, attachments, paid);
+    outstandings_due(pool, attachments, accruals, position, count, left);
+    let mut done = 0;
+    while done < count {
+        done += 1;
+        let i = position - done;
+        let discount = discounts[i];
+        let accrual = accruals[i];
+        roll_all(
+            sheet.pool.names,
+            sheet.pool.tranches,
+            hazards,
+            discount,
+            paid,
+            defaults,
+        );
+        accrue(accrual, left, premiums);
+        roll_all(
+            sheet.pool.names,
+            sheet.pool.tranches,
+            hazards,
+            discount,
+            none,
+            premiums,
+        );
+    }
+}
 
 // Takes both rows count steps back from a position.
 pub fn walk_back(
-    pool: Pool,
-    attachments: &[u64],
-    hazards: &[u64],
-    discounts: &[u64],
-    accruals: &[u64],
+    sheet: Sheet,
+    numbers: &[u64],
     defaults: &mut [u64],
     premiums: &mut [u64],
     position: usize,
     count: usize,
 )
-    requires { ⌜ Rollable (sheetOf pool (now attachments) (now hazards) (now discounts) (now accruals)) (now defaults) (now premiums) position count ⌝ }
-    ensures { λ _. ⌜ now (defaults .exit) ≡ rolledBack (sheetOf pool (now (attachments .entry)) (now (hazards .entry)) (now (discounts .entry)) (now (accruals .entry))) (defaultOf (sheetOf pool (now (attachments .entry)) (now (hazards .entry)) (now (discounts .entry)) (now (accruals .entry)))) position count (now (defaults .entry)) ⌝ }
-    ensures { λ _. ⌜ now (premiums .exit) ≡ rolledBack (sheetOf pool (now (attachments .entry)) (now (hazards .entry)) (now (discounts .entry)) (now (accruals .entry))) (premiumOf (sheetOf pool (now (attachments .entry)) (now (hazards .entry)) (now (discounts .entry)) (now (accruals .entry)))) position count (now (premiums .entry)) ⌝ }
+    requires { ⌜ Rollable (termsIn sheet (now numbers)) (now defaults) (now premiums) position count ⌝ }
+    ensures { λ _. ⌜ now (defaults .exit)
+        ≡ rolledBack (termsIn sheet (now (numbers .entry))) (defaultOf (termsIn sheet (now (numbers .entry)))) position count
+        (now (defaults .entry)) ⌝ }
+    ensures { λ _. ⌜ now (premiums .exit)
+        ≡ rolledBack (termsIn sheet (now (numbers .entry))) (premiumOf (termsIn sheet (now (numbers .entry)))) position count
+        (now (premiums .entry)) ⌝ }
 {
-    // 9 rows of 126 counts, as many as a sheet can have
-    let mut losses = [0u64; 126];
-    let mut paid = [0u64; 1134];
-    let mut left = [0u64; 1134];
-    let none = [0u64; 1134];
-    let size = (pool.tranches + 1) * (pool.names + 1);
-    back::walk_with_tables(
-        pool,
-        attachments,
-        hazards,
-        discounts,
-        accruals,
+    let mut paid = [0u64; ROW_MOST];
+    let mut left = [0u64; ROW_MOST];
+    let none = [0u64; ROW_MOST];
+    let size = (sheet.pool.tranches + 1) * (sheet.pool.names + 1);
+    walk_with_tables(
+        sheet,
+        numbers,
         defaults,
         premiums,
         position,
         count,
-        &mut losses[..pool.names + 1],
         &mut paid[..size],
         &mut left[..size],
         &none[..size],

@@ -1,12 +1,11 @@
--- The hedge ratio is answered as document 01's table says, and its millionths are the nearest. Assumes nothing.
-use mathlib.Core.Path.{_≡_, refl, ap}
-use Prim.Native.Nat.{ℕ, _+_, _*_, _/_, _%_, _≤_, _<_}
-use native.Mathlib.Nat.{div-add-mod', mod-lt, le-div-iff-mul-le, mul-one}
+-- The hedge ratio is answered as document 01's table says, and its millionths are the nearest.
+use mathlib.Core.Path.{ap}
+use Prim.Native.Nat.{ℕ, _+_, _*_, _<_}
+use native.Mathlib.Nat.{div-add-mod', mod-lt, le-div-iff-mul-le}
 use native.Mathlib.Omega.{arith}
-use borrow.Author.Tests.{eq-eqb, ne-eqb, le-leb}
-use lib.IntN.{ℤ, natAbs}
+use lib.IntN.{ℤ}
 use Rattle.cash.specs.Near.{Near}
-use Rattle.cash.specs.Hedges.{Hedges, hedgeOf, hedgeNumber, millionths, choose}
+use Rattle.cash.specs.Hedges.{Hedges, hedgeOf, hedgeNumber, millionths}
 use Rattle.cash.proofs.Long.{flat, off-scale, answered}
 
 pub hedges : (tranche index : ℤ) → Hedges tranche index (hedgeOf tranche index)

@@ -1,8 +1,6 @@
--- How large changes and jumps are. Assumes nothing.
+-- How large changes and jumps are.
 use mathlib.Core.Path.{_≡_, refl}
-use Prim.Native.Nat.{ℕ, _+_, _*_, _≤_}
-use native.Mathlib.Nat.{le-refl}
-use native.Mathlib.Omega.{arith}
+use Prim.Native.Nat.{ℕ, _*_, _≤_}
 use lib.IntN.{ℤ, pos, natAbs}
 use Rattle.cash.specs.Units.{B}
 use Rattle.cash.specs.declared.Node.{Node}

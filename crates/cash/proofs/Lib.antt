@@ -10,3 +10,4 @@ pub mod Long
 pub mod Jumps
 pub mod Hedges
 mod Trials
+pub mod Negated

@@ -1,7 +1,7 @@
--- Laws of losses and outstanding nominal. Assumes nothing.
+-- Laws of losses and outstanding nominal.
 use Prim.Native.Nat.{ℕ, zero, suc, _+_, _-_, _*_, _/_, _≤_, _<_, min}
-use mathlib.Core.Path.{_≡_, refl, _∙_, ap, ap₂}
-use native.Mathlib.Nat.{le-refl, le-step, le-of-lt, le-trans, mul-le-mul-left, mul-le-mul-right, div-le-of-le-mul, zero-mul, zero-div, sub-le, mul-div-cancel-left, le-div-iff-mul-le, div-mul-le-self}
+use mathlib.Core.Path.{_≡_, _∙_, ap, ap₂}
+use native.Mathlib.Nat.{le-refl, le-step, le-of-lt, le-trans, mul-le-mul-left, mul-le-mul-right, div-le-of-le-mul, zero-mul, zero-div, sub-le, le-div-iff-mul-le, div-mul-le-self}
 use native.Mathlib.Omega.{arith}
 use Rattle.cash.specs.Units.{B}
 use Rattle.cash.specs.Sums.{sumTo, Rising}
@@ -26,11 +26,6 @@ pool-loss-most names recovery k l = div-le-of-le-mul names (mul-le-mul-right (B 
 pub pool-loss-none : (names recovery : ℕ) → poolLoss names recovery 0 ≡ 0
 unfolding poolLoss
 pool-loss-none names recovery = ap (λ y. y / names) (zero-mul (B - recovery)) ∙ zero-div names
-
--- L(n) = B - R
-pub pool-loss-all : (names recovery : ℕ) → 0 < names → poolLoss names recovery names ≡ B - recovery
-unfolding poolLoss
-pool-loss-all names recovery p = mul-div-cancel-left (B - recovery) p
 
 -- ---- a tranche
 

@@ -1,16 +1,14 @@
 -- From the machine's reading of an i64 to the number. A signed local holds bits, and an operation on it reads `toZ w64` of them and writes `ofZ w64` of its result.
 -- So each operation is one equation, from what it reads to the number that is meant, and a bound on that number: `fits-of` answers its need, and `back` is the equation for the next operation.
--- Assumes nothing.
-use mathlib.Core.Path.{_≡_, refl, sym, _∙_, ap, subst}
+use mathlib.Core.Path.{_≡_, sym, _∙_, subst}
 use mathlib.Core.Bool.{Bool}
 use Prim.Native.Nat.{ℕ, _<_, _^_}
 use native.Mathlib.Omega.{arith}
 use lib.IntN.{ℤ, pos, negsuc, natAbs}
-use lib.Signed.{mag}
 use mir.Syntax.{w64}
 use mir.Val.{SFits, toZ, ofZ}
 use mir.ValLaws.{toZ-ofZ, toZ-pos}
-use Rattle.cash.specs.Hedges.{signed}
+use Rattle.cash.specs.Hedges.{withSign}
 use Rattle.cash.proofs.Signs.{size-of}
 
 small : (z : ℤ) → natAbs z < 2 ^ 63 → SFits w64 z
@@ -31,8 +29,8 @@ pub from-nat : (n : ℕ) → n < 2 ^ 63 → toZ w64 n ≡ pos n
 from-nat n h = toZ-pos w64 n h
 
 -- the same, where the number is meant by sign and size
-pub fits-signed : {z : ℤ} (s : Bool) (n : ℕ) → z ≡ signed s n → n < 2 ^ 63 → SFits w64 z
+pub fits-signed : {z : ℤ} (s : Bool) (n : ℕ) → z ≡ withSign s n → n < 2 ^ 63 → SFits w64 z
 fits-signed s n e h = fits-of e (subst (λ (m : ℕ). m < 2 ^ 63) (sym (size-of s n)) h)
 
-pub back-signed : {z : ℤ} (s : Bool) (n : ℕ) → z ≡ signed s n → n < 2 ^ 63 → toZ w64 (ofZ w64 z) ≡ signed s n
+pub back-signed : {z : ℤ} (s : Bool) (n : ℕ) → z ≡ withSign s n → n < 2 ^ 63 → toZ w64 (ofZ w64 z) ≡ withSign s n
 back-signed s n e h = back e (subst (λ (m : ℕ). m < 2 ^ 63) (sym (size-of s n)) h)

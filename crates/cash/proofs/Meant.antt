@@ -1,6 +1,6 @@
 -- A signed number that the machine reads, the number that is meant, and a bound on its size. A chain of operations is built as the code builds it: `fits` answers an operation's need, and `read` takes its result to the next.
--- `Is` is a record, so that its three arguments are inferred from what a chain is built of. Assumes nothing.
-use mathlib.Core.Path.{_≡_, refl, sym, _∙_, subst}
+-- `Is` is a record, so that its three arguments are inferred from what a chain is built of.
+use mathlib.Core.Path.{_≡_, refl, sym, subst}
 use Prim.Native.Nat.{ℕ, _+_, _*_, _≤_, _<_, _^_}
 use native.Mathlib.Nat.{le-refl, mul-le-mul}
 use native.Mathlib.Omega.{arith}

@@ -1,4 +1,4 @@
--- Laws of nearness. Assumes nothing.
+-- Laws of nearness.
 use Prim.Native.Nat.{ℕ, _+_, _*_, _≤_, _<_}
 use mathlib.Core.Path.{_≡_}
 use native.Mathlib.Nat.{mul-le-mul-left, le-of-mul-le-mul-right}

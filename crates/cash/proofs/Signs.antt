@@ -1,23 +1,22 @@
 -- Numbers of either sign by sign and size: what the machine's operations do to each.
--- Assumes nothing.
-use mathlib.Core.Path.{_≡_, refl, sym, _∙_, ap, subst}
-use mathlib.Core.Bool.{Bool, true, false, not, cond, false≢true, true≢false}
+use mathlib.Core.Path.{_≡_, refl, sym, ap}
+use mathlib.Core.Bool.{Bool, true, false, not, cond}
 use Prim.Native.Nat.{ℕ, zero, suc, _+_, _-_, _*_, _/_, _%_, _<_, _≤_, zero-le}
-use native.Mathlib.Nat.{zero-div, zero-mod, zero-mul, zero-add, mul-le-mul}
+use native.Mathlib.Nat.{zero-div, zero-mod, zero-mul}
 use borrow.Author.Tests.{le-ltb, ltb-true}
-use lib.Dec.{T, ltb, leb·zero}
+use lib.Dec.{ltb, leb·zero}
 use native.Mathlib.Omega.{arith}
-use lib.IntN.{ℤ, pos, negsuc, natAbs, negℤ, _+ℤ_, _-ℤ_, _*ℤ_, subℕ, negℤ-+ℤ, negℤ-negℤ}
-use lib.Signed.{quotZ, remZ, ltZ, leZ, nonNeg}
-use Rattle.cash.specs.Hedges.{negative, unlike, signed}
+use lib.IntN.{ℤ, pos, negsuc, natAbs, negℤ, _+ℤ_, _-ℤ_, _*ℤ_, subℕ, negℤ-+ℤ}
+use lib.Signed.{quotZ, remZ, ltZ, leZ}
+use Rattle.cash.specs.Hedges.{negative, unlike, withSign}
 
-pub signed-of : (z : ℤ) → z ≡ signed (negative z) (natAbs z)
-unfolding signed
+pub signed-of : (z : ℤ) → z ≡ withSign (negative z) (natAbs z)
+unfolding withSign
 signed-of (pos n) = refl
 signed-of (negsuc n) = refl
 
-pub size-of : (s : Bool) (n : ℕ) → natAbs (signed s n) ≡ n
-unfolding signed
+pub size-of : (s : Bool) (n : ℕ) → natAbs (withSign s n) ≡ n
+unfolding withSign
 size-of true zero = refl
 size-of true (suc n) = refl
 size-of false n = refl
@@ -26,19 +25,19 @@ pub zero-of : (z : ℤ) → natAbs z ≡ 0 → z ≡ pos 0
 zero-of (pos n) e = ap pos e
 zero-of (negsuc n) e = let f : ⊥ = omega arith in absurd f
 
-pub plus : (s : Bool) (a b : ℕ) → signed s a +ℤ signed s b ≡ signed s (a + b)
-unfolding signed
+pub plus : (s : Bool) (a b : ℕ) → withSign s a +ℤ withSign s b ≡ withSign s (a + b)
+unfolding withSign
 plus true a b = sym (negℤ-+ℤ (pos a) (pos b))
 plus false a b = refl
 
-pub times : (s : Bool) (a b : ℕ) → signed s a *ℤ pos b ≡ signed s (a * b)
-unfolding signed
+pub times : (s : Bool) (a b : ℕ) → withSign s a *ℤ pos b ≡ withSign s (a * b)
+unfolding withSign
 times true zero b = simp zero-mul
 times true (suc a) b = refl
 times false a b = refl
 
-pub quot : (s t : Bool) (a b : ℕ) → zero < b → quotZ (signed s a) (signed t b) ≡ signed (unlike s t) (a / b)
-unfolding signed
+pub quot : (s t : Bool) (a b : ℕ) → zero < b → quotZ (withSign s a) (withSign t b) ≡ withSign (unlike s t) (a / b)
+unfolding withSign
 quot s t a zero h = let f : ⊥ = omega arith in absurd f
 quot true true zero (suc b) h = simp zero-div
 quot true true (suc a) (suc b) h = refl
@@ -47,8 +46,8 @@ quot true false (suc a) (suc b) h = refl
 quot false true a (suc b) h = refl
 quot false false a (suc b) h = refl
 
-pub rem : (s t : Bool) (a b : ℕ) → remZ (signed s a) (signed t b) ≡ signed s (a % b)
-unfolding signed
+pub rem : (s t : Bool) (a b : ℕ) → remZ (withSign s a) (withSign t b) ≡ withSign s (a % b)
+unfolding withSign
 rem true t zero b = simp (size-of t b, zero-mod)
 rem true t (suc a) b = simp (size-of t b)
 rem false t a b = simp (size-of t b)
@@ -61,14 +60,6 @@ below-zero (negsuc n) = refl
 pub from-zero : (z : ℤ) → leZ (pos 0) z ≡ not (negative z)
 from-zero (pos n) = leb·zero n
 from-zero (negsuc n) = refl
-
-pub opposite : (z : ℤ) → negative z ≡ true → pos 0 -ℤ z ≡ pos (natAbs z)
-opposite (pos n) e = absurd (false≢true e)
-opposite (negsuc n) e = ap pos (zero-add (suc n))
-
-pub not-negative : (z : ℤ) → negative z ≡ false → T (nonNeg z)
-not-negative (pos n) e = tt
-not-negative (negsuc n) e = absurd (true≢false e)
 
 -- ---- sizes
 

@@ -1,4 +1,4 @@
--- Laws of sums. Assumes nothing.
+-- Laws of sums.
 use Prim.Native.Nat.{ℕ, zero, suc, _+_, _-_, _*_, _≤_, _<_}
 use mathlib.Core.Path.{_≡_, refl, ap₂}
 use native.Mathlib.Nat.{le-refl, le-step}

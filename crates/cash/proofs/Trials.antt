@@ -1,13 +1,12 @@
 -- Worked figures of the definitions, by computation: document 01's starred entries on losses and halves, its deck's net values and ratio, and edges of the ratio.
--- Assumes nothing.
 use mathlib.Core.Path.{_≡_, refl}
 use Prim.Native.Nat.{ℕ}
-use lib.IntN.{ℤ, pos, negsuc}
+use lib.IntN.{pos, negsuc}
 use Rattle.cash.specs.Units.{B, half}
 use Rattle.cash.specs.Losses.{poolLoss, trancheLoss, trancheOutstanding, indexOutstanding}
 use Rattle.cash.specs.declared.Node.{Node}
 use Rattle.cash.specs.declared.Hedge.the-variants.{Millionths, Flat, OffScale}
-use Rattle.cash.specs.Hedges.{signed, millionths, netValue, changeOf, jumpOf, ratioOf, hedgeOf}
+use Rattle.cash.specs.Hedges.{withSign, millionths, netValue, changeOf, jumpOf, ratioOf, hedgeOf}
 
 -- what is left of a tranche of a pool of 125 with a recovery of 40 %
 left : ℕ → ℕ → ℕ → ℕ
@@ -63,7 +62,7 @@ record Deck : Type 0 where
   delta : hedgeOf (jumpOf 1_000_000 tranche-0 tranche-1) (jumpOf 500_000 index-0 index-1) ≡ Millionths (pos 724_386)
 
 deck : Deck
-unfolding netValue jumpOf changeOf tranche-0 tranche-1 index-0 index-1 hedgeOf ratioOf signed millionths
+unfolding netValue jumpOf changeOf tranche-0 tranche-1 index-0 index-1 hedgeOf ratioOf withSign millionths
 deck = record { tranche = refl; index = refl; delta = refl }
 
 record Ratios : Type 0 where
@@ -76,7 +75,7 @@ record Ratios : Type 0 where
   flat : hedgeOf (pos 1) (pos 0) ≡ Flat
 
 ratios : Ratios
-unfolding hedgeOf ratioOf signed millionths
+unfolding hedgeOf ratioOf withSign millionths
 ratios =
     record {
       half-up = refl;

@@ -1,5 +1,5 @@
 -- Net value, jump and hedge ratio, whole numbers of either sign (document 01, 'Walking back' and 'Hedge ratio').
-use mathlib.Core.Bool.{Bool, true, false, not}
+use mathlib.Core.Bool.{Bool, true, false, not, cond}
 use mathlib.Core.Path.{_≡_}
 use Prim.Native.Nat.{ℕ, _+_, _*_, _/_, _≤_, _<_}
 use lib.Dec.{eqb, leb}
@@ -39,9 +39,9 @@ unlike true b = not b
 unlike false b = b
 
 -- n, or -n where the sign is true
-unfoldable pub signed : Bool → ℕ → ℤ
-signed true n = negℤ (pos n)
-signed false n = pos n
+unfoldable pub withSign : Bool → ℕ → ℤ
+withSign true n = negℤ (pos n)
+withSign false n = pos n
 
 -- s / d in millionths, to the nearest, a half upwards
 unfoldable pub millionths : ℕ → ℕ → ℕ
@@ -49,17 +49,13 @@ millionths s d = (2 * (s * 1_000_000) + d) / (2 * d)
 
 -- The ratio of two jumps in millionths: its size by `millionths`, so that a half goes away from zero, and its sign.
 unfoldable pub ratioOf : ℤ → ℤ → ℤ
-ratioOf tranche index = signed (unlike (negative tranche) (negative index)) (millionths (natAbs tranche) (natAbs index))
-
-abbrev pub choose : {A : Type 0} → Bool → A → A → A
-choose true a b = a
-choose false a b = b
+ratioOf tranche index = withSign (unlike (negative tranche) (negative index)) (millionths (natAbs tranche) (natAbs index))
 
 -- The hedge ratio: refused where the index does not jump, or the tranche jumps at least 1,000,000 times as far.
 unfoldable pub hedgeOf : ℤ → ℤ → Hedge
 hedgeOf tranche index =
-    choose (eqb (natAbs index) 0) Flat
-    (choose (leb (1_000_000 * natAbs index) (natAbs tranche)) OffScale
+    cond (eqb (natAbs index) 0) Flat
+    (cond (leb (1_000_000 * natAbs index) (natAbs tranche)) OffScale
     (Millionths (ratioOf tranche index)))
 
 -- Document 01's number of each answer: 0 for a ratio, 15 flat hedge, 16 off scale.

@@ -1,6 +1,6 @@
 // The arithmetic layer: rounding, losses, payments, net values, jumps and the hedge ratio. It knows no walk and no register.
 ghost use mathlib.Core.Path.{_≡_};
-ghost use Prim.Native.Nat.{_≤_, _<_, _*_, _^_};
+ghost use Prim.Native.Nat.{_≤_, _<_, _*_};
 ghost use lib.IntN.{natAbs};
 ghost use Rattle.cash.specs.Units.{B};
 ghost use Rattle.cash.specs.Losses.{
@@ -101,7 +101,7 @@ pub struct Node {
 }
 
 // How far a figure goes up, or down.
-pub fn change(before: u64, after: u64) -> i64
+fn change(before: u64, after: u64) -> i64
     requires { ⌜ (before ≤ 18 * B) × (after ≤ 18 * B) ⌝ }
     ensures { λ r. ⌜ r ≡ changeOf before after ⌝ }
 {
@@ -117,16 +117,19 @@ pub fn jump(coupon: u64, here: Node, next: Node) -> i64
         - (coupon as i64) * change(here.premium, next.premium)
 }
 
-// The size of a signed number.
+// x without its sign. The least i64 has no negation, but one more than it has.
 pub fn magnitude(x: i64) -> u64
-    requires { ⌜ natAbs x < 2 ^ 63 ⌝ }
     ensures { λ r. ⌜ r ≡ natAbs x ⌝ }
 {
-    if x < 0 { (0 - x) as u64 } else { x as u64 }
+    if x < 0 {
+        (-(x + 1)) as u64 + 1
+    } else {
+        x as u64
+    }
 }
 
 // Whether one of the two is negative and the other is not.
-pub fn unlike_signs(x: i64, y: i64) -> bool
+fn unlike_signs(x: i64, y: i64) -> bool
     ensures { λ r. ⌜ r ≡ unlike (negative x) (negative y) ⌝ }
 {
     if x < 0 { y >= 0 } else { y < 0 }

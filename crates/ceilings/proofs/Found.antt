@@ -1,21 +1,24 @@
--- Laws of a search for an entry over its ceiling. Assumes nothing.
+-- Laws of a search for an entry over its ceiling.
 use Prim.Native.Nat.{ℕ, zero, suc, _+_, _*_, _/_, _%_, _≤_, _<_}
 use mathlib.Core.Path.{_≡_, refl, ap, sym, _∙_}
 use mathlib.Core.Bool.{Bool, true, false, _||_}
-use mathlib.Core.List.{List}
+use mathlib.Core.List.{List, []}
 use native.Mathlib.Omega.{arith}
 use native.Mathlib.Decide.{ℕ-discrete}
 use lib.ListN.{length, getD, drop}
 use lib.Arith.{digits-lt, digits-div, digits-mod}
 use lib.Dec.{ltb}
 use borrow.Author.Tests.{ltb-false, lt-ltb, le-ltb}
-use Rattle.tree.specs.Sheet.{Sheet, defaultMost, premiumMost, sumOf}
+use Rattle.sheet.specs.Terms.{Terms, sumOf, termsOf, bare}
+use Rattle.sheet.specs.Limits.{TermsWithin}
+use Rattle.tree.specs.Sheet.{poolLossOf, lossOf, widthOf, defaultMost, premiumMost}
+use Rattle.tree.proofs.Sheets.{loss-most}
 use Rattle.rows.specs.Tables.{entry, any}
-use Rattle.rows.specs.Rows.{sheetOf, nodeIn, anyOver, soiled}
-use Rattle.rows.specs.Limits.{Limits, Rollable, size, bare}
-use Rattle.rows.specs.declared.Pool.{Pool}
+use Rattle.rows.specs.Rows.{rowLength, nodeIn, anyOver, soiled}
+use Rattle.rows.specs.Rollable.{Rollable}
+use Rattle.sheet.specs.declared.Pool.{Pool}
 use Rattle.rows.proofs.Search.{or-left, or-right, neither, met-left, met-right, any-hit, any-missed, any-none, any-cong}
-use Rattle.tranches.proofs.Losses.{loss-width, width-most, ceiling-bare}
+use Rattle.tranches.proofs.Losses.{width-most, ceiling-bare}
 
 -- ---- a search place by place
 
@@ -48,10 +51,10 @@ over-none r w f c =
 -- ---- what the search asks at a place
 
 -- Whether one of the two legs is over its ceiling.
-abbrev pub overAt : Sheet → ℕ → List ℕ → List ℕ → ℕ → ℕ → Bool
+abbrev pub overAt : Terms → ℕ → List ℕ → List ℕ → ℕ → ℕ → Bool
 overAt x most d p j k = ltb (defaultMost x j k) (entry (suc (x .names)) d j k) || ltb most (entry (suc (x .names)) p j k)
 
-module _ (x : Sheet) (most : ℕ) (d p : List ℕ) (j k place : ℕ) (place-is : place ≡ j * suc (x .names) + k) where
+module _ (x : Terms) (most : ℕ) (d p : List ℕ) (j k place : ℕ) (place-is : place ≡ j * suc (x .names) + k) where
   pub over-default : (left : ℕ) → left ≡ defaultMost x j k → left < getD d place 0 → overAt x most d p j k ≡ true
   unfolding entry
   over-default left e h = met-left (ltb (defaultMost x j k) (entry (suc (x .names)) d j k)) (ltb most (entry (suc (x .names)) p j k)) (lt-ltb _ _ (rw (e, place-is) at h))
@@ -79,10 +82,10 @@ any-or (suc n) f g = ap (λ (b : Bool). b || (f n || g n)) (any-or n f g) ∙ or
 -- What the search finds is that the rows are soiled.
 pub soiled-is : (pool : Pool) (attachments hazards discounts accruals d p : List ℕ) (i most : ℕ) → most ≡ sumOf (drop i accruals) →
     any (suc (pool .tranches)) (λ j. any (suc (pool .names)) (λ k. overAt (bare pool attachments) most d p j k))
-    ≡ soiled (sheetOf pool attachments hazards discounts accruals) i d p
+    ≡ soiled (termsOf pool attachments hazards discounts accruals) i d p
 unfolding soiled anyOver nodeIn premiumMost
 soiled-is pool attachments hazards discounts accruals d p i most e =
-    let x : Sheet = sheetOf pool attachments hazards discounts accruals in
+    let x : Terms = termsOf pool attachments hazards discounts accruals in
     let r : ℕ = suc (pool .tranches) in
     let w : ℕ = suc (pool .names) in
     (λ t.
@@ -91,14 +94,26 @@ soiled-is pool attachments hazards discounts accruals d p i most e =
     ∙ any-cong r _ _ (λ j h. any-or w (λ k. ltb (defaultMost x j k) (entry w d j k)) (λ k. ltb (sumOf (drop i accruals)) (entry w p j k)))
     ∙ any-or r (λ j. any w (λ k. ltb (defaultMost x j k) (entry w d j k))) (λ j. any w (λ k. ltb (sumOf (drop i accruals)) (entry w p j k)))
 
+-- The lists that set no ceiling play no part, and the others may be parts of the sheet's numbers.
+module _ (pool : Pool) (attachments hazards discounts accruals a c : List ℕ) (a-is : a ≡ attachments) (c-is : c ≡ accruals) where
+  abbrev x : Terms
+  x = termsOf pool attachments hazards discounts accruals
+
+  soiled-whole : (i : ℕ) (d p : List ℕ) → soiled (termsOf pool attachments [] [] accruals) i d p ≡ soiled x i d p
+  unfolding soiled anyOver nodeIn defaultMost widthOf lossOf poolLossOf premiumMost
+  soiled-whole i d p = refl
+
+  pub soiled-part : (i : ℕ) (d p : List ℕ) → soiled (termsOf pool a [] [] c) i d p ≡ soiled x i d p
+  soiled-part i d p = (λ t. soiled (termsOf pool (a-is t) [] [] (c-is t)) i d p) ∙ soiled-whole i d p
+
 -- ---- rows that keep to their ceilings can be walked back
 
-none-over : (x : Sheet) (most : ℕ → ℕ → ℕ) (row : List ℕ) → anyOver x most row ≡ false → (j k : ℕ) → j ≤ x .tranches → k ≤ x .names → nodeIn x row j k ≤ most j k
+none-over : (x : Terms) (most : ℕ → ℕ → ℕ) (row : List ℕ) → anyOver x most row ≡ false → (j k : ℕ) → j ≤ x .tranches → k ≤ x .names → nodeIn x row j k ≤ most j k
 unfolding anyOver
 none-over x most row e j k p q =
     ltb-false _ _ (any-none (suc (x .names)) _ (any-none (suc (x .tranches)) _ e j (omega arith)) k (omega arith))
 
-pub unsoiled-rollable : (x : Sheet) (d p : List ℕ) (position count : ℕ) → Limits x → length d ≡ size x → length p ≡ size x
+pub unsoiled-rollable : (x : Terms) (d p : List ℕ) (position count : ℕ) → TermsWithin x → length d ≡ rowLength x → length p ≡ rowLength x
     → position ≤ x .steps → count ≤ position → soiled x position d p ≡ false → Rollable x d p position count
 unfolding soiled defaultMost premiumMost
 unsoiled-rollable x d p position count l dl pl a b e =
@@ -109,6 +124,6 @@ unsoiled-rollable x d p position count l dl pl a b e =
       defaults-long = dl;
       premiums-long = pl;
       defaults-most = λ j k u v.
-          omega (arith, none-over x (defaultMost x) d (or-left (anyOver x (defaultMost x) d) (anyOver x (λ j k. premiumMost x position k) p) e) j k u v, loss-width x j k v, width-most x (l .within .attachment-most) j);
+          omega (arith, none-over x (defaultMost x) d (or-left (anyOver x (defaultMost x) d) (anyOver x (λ j k. premiumMost x position k) p) e) j k u v, loss-most x j k v, width-most x (l .tranches) j);
       premiums-most = λ j k u v. omega (arith, none-over x (λ j k. premiumMost x position k) p (or-right (anyOver x (defaultMost x) d) (anyOver x (λ j k. premiumMost x position k) p) e) j k u v);
     }

@@ -2,21 +2,24 @@
 ghost use mathlib.Core.Path.{_≡_};
 ghost use mathlib.Core.Bool.{_||_};
 ghost use Prim.Native.Nat.{suc, _*_, _≤_};
+ghost use mathlib.Core.List.{[]};
 ghost use lib.ListN.{length, drop};
 ghost use lib.Dec.{ltb};
+ghost use Rattle.sheet.specs.Limits.{TranchesWithin, TermsWithin};
+ghost use Rattle.sheet.specs.Spans.{termsIn};
 ghost use Rattle.cash.specs.Units.{B};
-ghost use Rattle.tree.specs.Sheet.{defaultMost, sumOf};
+ghost use Rattle.sheet.specs.Terms.{sumOf, termsOf, bare};
+ghost use Rattle.tree.specs.Sheet.{defaultMost};
 ghost use Rattle.rows.specs.Tables.{entry, any};
-ghost use Rattle.rows.specs.Rows.{sheetOf, soiled};
+ghost use Rattle.rows.specs.Rows.{rowLength, soiled};
 ghost use Rattle.rows.specs.Kernels.{poolLosses};
-ghost use Rattle.rows.specs.Limits.{Limits, Tranched, bare, size};
-use rows::Pool;
-use tranches::figures::lower_of;
-use tranches::figures::pool_losses;
-use tranches::figures::upper_of;
+use sheet::COUNTS_MOST;
+use sheet::Pool;
+use sheet::Sheet;
+use sheet::part;
 
 // The accruals after a step: the ceiling of every premium leg there.
-pub fn accruals_after(accruals: &[u64], position: usize) -> u64
+fn accruals_after(accruals: &[u64], position: usize) -> u64
     requires { ⌜ sumOf (now accruals) ≤ 10 * B ⌝ }
     ensures { λ r. ⌜ r ≡ sumOf (drop position (now (accruals .entry))) ⌝ }
 {
@@ -30,8 +33,9 @@ pub fn accruals_after(accruals: &[u64], position: usize) -> u64
     sum
 }
 
-// Whether an entry of one of the rows is over its ceiling: a default leg over what its tranche has left to lose, a premium leg over `most`. The first one ends the search.
-pub fn any_over(
+// Whether an entry of one of the rows is over its ceiling: a default leg over what its tranche has left to lose, a premium leg over `most`.
+// The first one ends the search.
+fn any_over(
     pool: Pool,
     attachments: &[u64],
     losses: &[u64],
@@ -39,9 +43,13 @@ pub fn any_over(
     defaults: &[u64],
     premiums: &[u64],
 ) -> bool
-    requires { ⌜ Tranched (bare pool (now attachments)) × (now losses ≡ poolLosses (pool .names) (pool .recovery)) ⌝ }
-    requires { ⌜ (length (now defaults) ≡ size (bare pool (now attachments))) × (length (now premiums) ≡ size (bare pool (now attachments))) ⌝ }
-    ensures { λ r. ⌜ r ≡ any (suc (pool .tranches)) (λ j. any (suc (pool .names)) (λ k. ltb (defaultMost (bare pool (now (attachments .entry))) j k) (entry (suc (pool .names)) (now (defaults .entry)) j k) || ltb most (entry (suc (pool .names)) (now (premiums .entry)) j k))) ⌝ }
+    requires { ⌜ TranchesWithin (bare pool (now attachments)) × (now losses ≡ poolLosses (pool .names) (pool .recovery)) ⌝ }
+    requires { ⌜ (length (now defaults) ≡ rowLength (bare pool (now attachments)))
+        × (length (now premiums) ≡ rowLength (bare pool (now attachments))) ⌝ }
+    ensures { λ r. ⌜ r
+        ≡ any (suc (pool .tranches)) (λ j. any (suc (pool .names)) (λ k.
+        ltb (defaultMost (bare pool (now (attachments .entry))) j k) (entry (suc (pool .names)) (now (defaults .entry)) j k)
+        || ltb most (entry (suc (pool .names)) (now (premiums .entry)) j k))) ⌝ }
 {
     let names = pool.names;
     let tranches = pool.tranches;
@@ -49,8 +57,8 @@ pub fn any_over(
     let mut place = 0;
     let mut j = 0;
     'search: while j <= tranches {
-        let lower = lower_of(pool, attachments, j);
-        let upper = upper_of(pool, attachments, j);
+        let lower = tranches::lower_of(pool, attachments, j);
+        let upper = tranches::upper_of(pool, attachments, j);
         let mut k = 0;
         while k <= names {
             let left = cash::tranche_outstanding(lower, upper, losses[k]);
@@ -70,49 +78,47 @@ pub fn any_over(
     found
 }
 
-// Fills the table of losses and searches both rows. (A sheet's lists are lent together; hazards and discounts set no ceiling.)
-pub fn soiled_with_losses(
+// Fills the table of losses and searches both rows.
+fn soiled_with_losses(
     pool: Pool,
     attachments: &[u64],
-    hazards: &[u64],
-    discounts: &[u64],
     accruals: &[u64],
     defaults: &[u64],
     premiums: &[u64],
     position: usize,
     losses: &mut [u64],
 ) -> bool
-    requires { ⌜ Limits (sheetOf pool (now attachments) (now hazards) (now discounts) (now accruals)) × (length (now losses) ≡ suc (pool .names)) ⌝ }
-    requires { ⌜ (length (now defaults) ≡ size (bare pool (now attachments))) × (length (now premiums) ≡ size (bare pool (now attachments))) ⌝ }
-    ensures { λ r. ⌜ r ≡ soiled (sheetOf pool (now (attachments .entry)) (now (hazards .entry)) (now (discounts .entry)) (now (accruals .entry))) position (now (defaults .entry)) (now (premiums .entry)) ⌝ }
+    requires { ⌜ TranchesWithin (bare pool (now attachments)) × (sumOf (now accruals) ≤ 10 * B) × (length (now losses) ≡ suc (pool .names)) ⌝ }
+    requires { ⌜ (length (now defaults) ≡ rowLength (bare pool (now attachments)))
+        × (length (now premiums) ≡ rowLength (bare pool (now attachments))) ⌝ }
+    ensures { λ r. ⌜ r
+        ≡ soiled (termsOf pool (now (attachments .entry)) [] [] (now (accruals .entry))) position (now (defaults .entry)) (now (premiums .entry)) ⌝ }
 {
-    pool_losses(pool.names, pool.recovery, losses);
+    tranches::pool_losses(pool.names, pool.recovery, losses);
     let most = accruals_after(accruals, position);
     any_over(pool, attachments, losses, most, defaults, premiums)
 }
 
 // Whether the rows at a position hold an entry over its ceiling.
 pub fn is_soiled(
-    pool: Pool,
-    attachments: &[u64],
-    hazards: &[u64],
-    discounts: &[u64],
-    accruals: &[u64],
+    sheet: Sheet,
+    numbers: &[u64],
     defaults: &[u64],
     premiums: &[u64],
     position: usize,
 ) -> bool
-    requires { ⌜ Limits (sheetOf pool (now attachments) (now hazards) (now discounts) (now accruals)) ⌝ }
-    requires { ⌜ (length (now defaults) ≡ size (bare pool (now attachments))) × (length (now premiums) ≡ size (bare pool (now attachments))) ⌝ }
-    ensures { λ r. ⌜ r ≡ soiled (sheetOf pool (now (attachments .entry)) (now (hazards .entry)) (now (discounts .entry)) (now (accruals .entry))) position (now (defaults .entry)) (now (premiums .entry)) ⌝ }
+    requires { ⌜ TermsWithin (termsIn sheet (now numbers)) ⌝ }
+    requires { ⌜ (length (now defaults) ≡ rowLength (termsIn sheet (now numbers)))
+        × (length (now premiums) ≡ rowLength (termsIn sheet (now numbers))) ⌝ }
+    ensures { λ r. ⌜ r ≡ soiled (termsIn sheet (now (numbers .entry))) position (now (defaults .entry)) (now (premiums .entry)) ⌝ }
 {
-    // as many counts as a sheet can have
-    let mut losses = [0u64; 126];
+    let pool = sheet.pool;
+    let attachments = part(sheet.attachments, numbers);
+    let accruals = part(sheet.accruals, numbers);
+    let mut losses = [0u64; COUNTS_MOST];
     soiled_with_losses(
         pool,
         attachments,
-        hazards,
-        discounts,
         accruals,
         defaults,
         premiums,

@@ -1,4 +1,4 @@
--- The command of each command byte, from its operands. Assumes nothing.
+-- The command of each command byte, from its operands.
 use Prim.Native.Nat.{ℕ, _+_}
 use mathlib.Core.Path.{_≡_}
 use mathlib.Core.List.{List}

@@ -1,4 +1,4 @@
--- Commands as the definitions read them; the pool is that of document 01's worked deck. Assumes nothing.
+-- Commands as the definitions read them; the pool is that of document 01's worked deck.
 use mathlib.Core.Path.{_≡_, refl}
 use mathlib.Core.List.{[], _∷_}
 use Rattle.commands.specs.Commands.{lowFirst, operands, commands, decoded, commandAt}

@@ -1,5 +1,4 @@
 -- Laws of the commands for the crates above: how large operands are, and that a command that is read ends in the deck.
--- Assumes nothing.
 use Prim.Native.Nat.{ℕ, zero, suc, _+_, _-_, _≤_, _<_}
 use mathlib.Core.Path.{_≡_, refl, sym, ap, _∙_, subst}
 use mathlib.Core.Bool.{Bool, true, false}
@@ -10,7 +9,7 @@ use lib.Dec.{ltb, leb, lit≤}
 use lib.ListN.{length, getD, List·getD-eq-default, List·getD-map}
 use Rattle.commands.specs.Commands.{widths, operands, commands, decoded, pick, isCommand, commandAt, entrySize, orderSize}
 use Rattle.commands.proofs.Low.{one-below, two-below, four-below}
-use Rattle.commands.specs.Sizes.{Bytes, EntrySized, OrderSized, Sized}
+use Rattle.commands.specs.Sizes.{Bytes, Sized}
 use Rattle.commands.specs.declared.Command.{Command}
 use Rattle.commands.specs.declared.Command.the-variants.{Enter, Act, Unknown, CutShort}
 use Rattle.commands.specs.declared.Entry.{Entry}
@@ -63,12 +62,6 @@ cases P s at unknown short whole =
 -- what is read is as large as the widths say
 pub sized : (s : List ℕ) (at : ℕ) → Bytes s → Sized (commandAt s at)
 sized s at h = cases Sized s at tt tt (λ _. decoded-sized (getD s at 0) s (at + 1) h)
-
-pub entry-sized : (s : List ℕ) (at : ℕ) (e : Entry) → Bytes s → commandAt s at ≡ Enter e → EntrySized e
-entry-sized s at e h q = subst Sized q (sized s at h)
-
-pub order-sized : (s : List ℕ) (at : ℕ) (o : Order) → Bytes s → commandAt s at ≡ Act o → OrderSized o
-order-sized s at o h q = subst Sized q (sized s at h)
 
 -- a command has a byte at least
 pub entry-some : (e : Entry) → (1 ≤ entrySize e) × (entrySize e ≤ 10)
@@ -127,6 +120,3 @@ module _ (s : List ℕ) (at : ℕ) where
   -- a command that is read ends in the deck
   pub entry-fits : (e : Entry) → commandAt s at ≡ Enter e → at + entrySize e ≤ length s
   entry-fits e q = fits-at (Enter e) (ltb at (length s)) refl q (λ u. let z : _≡_ {A = ℕ} 0 1 = cc in omega arith)
-
-  pub order-fits : (o : Order) → commandAt s at ≡ Act o → at + orderSize o ≤ length s
-  order-fits o q = fits-at (Act o) (ltb at (length s)) refl q (λ u. let z : _≡_ {A = ℕ} 0 1 = cc in omega arith)

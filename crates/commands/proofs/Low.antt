@@ -1,4 +1,4 @@
--- Laws of `lowFirst`. Assumes nothing.
+-- Laws of `lowFirst`.
 use Prim.Native.Nat.{ℕ, zero, suc, _+_, _-_, _*_, _^_, _≤_, _<_}
 use mathlib.Core.Path.{_≡_, refl, ap, _∙_, subst}
 use mathlib.Core.List.{List}

@@ -1,4 +1,4 @@
--- Command bytes that are no commands, and what the tests of `command_at` say. Assumes nothing.
+-- Command bytes that are no commands, and what the tests of `command_at` say.
 use Prim.Native.Nat.{ℕ, suc, _+_, _-_, _≤_, _<_}
 use mathlib.Core.Path.{_≡_, refl, sym, subst}
 use mathlib.Core.Bool.{Bool, true, false, _&&_}

@@ -1,4 +1,4 @@
--- The commands of a deck, as document 01, 'Deck and printing program', lists them. Assumes nothing.
+-- The commands of a deck, as document 01, 'Deck and printing program', lists them.
 use Prim.Native.Nat.{ℕ, zero, suc, _+_, _-_, _*_}
 use mathlib.Core.Bool.{Bool, true, false, _&&_}
 use mathlib.Core.List.{List, [], _∷_}

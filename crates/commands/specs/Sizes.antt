@@ -1,4 +1,4 @@
--- How large the operands of a command can be: less than 256 to the power of their width. Assumes nothing.
+-- How large the operands of a command can be: less than 256 to the power of their width.
 use Prim.Native.Nat.{ℕ, _^_, _≤_, _<_}
 use mathlib.Core.List.{List}
 use lib.ListN.{getD}

@@ -1,18 +1,18 @@
--- What a run leaves in out, on plain values. Assumes nothing.
-use Prim.Native.Nat.{ℕ, _+_, _*_, _≤_, _<_, min}
+-- What a run leaves in out, on plain values.
+use Prim.Native.Nat.{ℕ, _+_, _*_, _≤_, _<_}
 use mathlib.Core.Path.{_≡_, refl, sym, ap, _∙_}
 use mathlib.Core.Bool.{Bool, true, false}
-use mathlib.Core.List.{List, [], _∷_, _++_}
+use mathlib.Core.List.{List, _++_}
 use native.Mathlib.Nat.{zero-add}
 use native.Mathlib.Omega.{arith}
 use borrow.Author.Tests.{lt-ltb, le-ltb, ltb-true}
 use lib.Dec.{ltb}
 use lib.ListN.{length, drop, length-append}
-use lib.Seq.{sets, sets-eq}
+use lib.Seq.{sets-eq}
 use Rattle.lines.specs.Text.{Wrote}
-use Rattle.desk.specs.Desk.{blank}
+use Rattle.machine.specs.Machine.{freshMachine}
 use Rattle.render.specs.Lines.{deckLine}
-use Rattle.runs.specs.Running.{listingFrom}
+use Rattle.interpreter.specs.ListingFrom.{listingFrom}
 use Rattle.deck.specs.declared.Ran.the-variants.{Printed, NoRoom}
 use Rattle.deck.specs.Listing.{listing, room, Printout, printout, printing}
 
@@ -21,7 +21,7 @@ pub oversized : (deck : List ℕ) → 65536 < length deck → deckLine 20 65536 
 unfolding listing
 oversized deck h = sym (rw (lt-ltb 65536 (length deck) h, listing))
 
-pub sized : (deck : List ℕ) → length deck ≤ 65536 → listingFrom (length deck) deck 0 blank ≡ listing deck
+pub sized : (deck : List ℕ) → length deck ≤ 65536 → listingFrom (length deck) deck 0 freshMachine ≡ listing deck
 unfolding listing
 sized deck h = sym (rw (le-ltb 65536 (length deck) h, listing))
 

@@ -1,18 +1,18 @@
 -- What a deck prints (document 01, 'Deck and printing program').
 use Prim.Native.Nat.{ℕ, _+_, _*_, min}
-use mathlib.Core.Bool.{Bool, true, false}
+use mathlib.Core.Bool.{true, false}
 use mathlib.Core.List.{List, _++_}
 use lib.Dec.{ltb}
 use lib.ListN.{length, drop}
-use Rattle.desk.specs.Desk.{blank}
+use Rattle.machine.specs.Machine.{freshMachine}
 use Rattle.render.specs.Lines.{deckLine}
-use Rattle.runs.specs.Running.{listingFrom}
+use Rattle.interpreter.specs.ListingFrom.{listingFrom}
 use Rattle.deck.specs.declared.Ran.{Ran}
 use Rattle.deck.specs.declared.Ran.the-variants.{Printed, NoRoom}
 
--- The whole listing. Each command has a byte at least, so there are no more turns than bytes. An oversized deck prints only one line.
+-- The whole listing. Each command has a byte at least, so there are no more commands than bytes. An oversized deck prints only one line.
 unfoldable pub listing : List ℕ → List ℕ
-listing deck = elim (ltb 65536 (length deck)) [ true ↦ deckLine 20 65536 | false ↦ listingFrom (length deck) deck 0 blank ]
+listing deck = elim (ltb 65536 (length deck)) [ true ↦ deckLine 20 65536 | false ↦ listingFrom (length deck) deck 0 freshMachine ]
 
 -- ---- The room that is asked for: 32 bytes for each byte of a deck, and 96 for the last line
 

@@ -1,6 +1,9 @@
 // A whole deck: its commands are run one after the other, and what they print is written.
 ghost use mathlib.Core.Path.{_≡_};
 ghost use Rattle.deck.specs.Listing.{room as roomOf, printout, printing};
+use entries::NUMBERS;
+use sheet::COUNTS_MOST;
+use sheet::ROW_MOST;
 
 // The most bytes of a deck.
 pub const MOST: usize = 65536;
@@ -31,23 +34,15 @@ pub fn run(deck: &[u8], out: &mut [u8]) -> Ran
     if MOST < deck.len() {
         return Ran::Printed(render::put_deck(out, 0, 20, MOST));
     }
-    // the most entries of each list, and rows as the largest sheet has them: 9 of 126 numbers
-    let mut attachments = [0u64; 9];
-    let mut hazards = [0u64; 125];
-    let mut discounts = [0u64; 3650];
-    let mut accruals = [0u64; 3650];
-    let mut coupons = [0u64; 9];
+    // the most entries of each list; rows as the largest sheet has them
+    let mut numbers = [0u64; NUMBERS];
     let mut register = [0xFFu8; 256];
-    let mut defaults = [0u64; 1134];
-    let mut premiums = [0u64; 1134];
-    let mut row = [0u64; 126];
-    Ran::Printed(runs::all(
+    let mut defaults = [0u64; ROW_MOST];
+    let mut premiums = [0u64; ROW_MOST];
+    let mut row = [0u64; COUNTS_MOST];
+    Ran::Printed(interpreter::interpret(
         deck,
-        &mut attachments,
-        &mut hazards,
-        &mut discounts,
-        &mut accruals,
-        &mut coupons,
+        &mut numbers,
         &mut register,
         &mut defaults,
         &mut premiums,

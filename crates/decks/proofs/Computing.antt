@@ -1,31 +1,118 @@
--- What opens when a deck is computed, under one name. Assumes nothing.
+-- What opens when a deck is computed, under one name.
 use Rattle.cash.specs.Units.{B, half}
 use Rattle.cash.specs.Losses.{poolLoss, trancheLoss, trancheOutstanding, indexOutstanding, defaultPayment, premiumPayment}
-use Rattle.cash.specs.Hedges.{netValue, changeOf, jumpOf, signed as signedOf, millionths, ratioOf}
+use Rattle.cash.specs.Hedges.{netValue, changeOf, jumpOf, withSign as signedOf, millionths, ratioOf}
 use Rattle.tree.specs.Backward.{rollNode, over}
 use Rattle.tree.specs.Legs.{defaultCash, premiumCash, mark}
-use Rattle.tree.specs.Sheet.{hazardOf, discountOf, accrualOf, poolLossOf, lossOf, widthOf, outstandingOf, treeOf, defaultOf, premiumOf, sumOf, defaultMost, premiumMost}
-use Rattle.tree.specs.Forward.{same, moved, fromBelow, pushed, distribution}
+use Rattle.sheet.specs.Terms.{sumOf}
+use Rattle.tree.specs.Sheet.{
+  hazardOf,
+  discountOf,
+  accrualOf,
+  poolLossOf,
+  lossOf,
+  widthOf,
+  outstandingOf,
+  treeOf,
+  defaultOf,
+  premiumOf,
+  defaultMost,
+  premiumMost,
+}
+use Rattle.tree.specs.Forward.{same, outflow, fromBelow, pushed, distribution}
 use Rattle.rows.specs.Tables.{tab, entry, grid, any}
-use Rattle.rows.specs.Rows.{nodeIn, rowOf, rolled, rolledBack, anyOver, soiled, spreadRow}
-use Rattle.sheet.specs.Tests.{poolBad, listsBad, recoveryBad, attachmentsBad, hazardsBad, discountsBad, accrualsBad, couponsBad, first, sheetTests}
-use Rattle.walk.specs.Table.{nodeOf, jump}
-use Rattle.walk.specs.Calls.{rowsBad, rowBad, walkBad, tenTests, twelveTests, openTests, backTests, valueTests, ratioTests, forwardTests, orOutcome, orFilled, zeros, rolls, openCall, backCall, worth, valueCall, ratioCall, forwardCall}
+use Rattle.rows.specs.Rows.{nodeIn, rowOf, rolled, rolledBack, anyOver, soiled, distributionRow}
+use Rattle.checks.specs.Tests.{poolBad, listsBad, recoveryBad, attachmentsBad, hazardsBad, discountsBad, accrualsBad, couponsBad, first, sheetTests}
+use Rattle.figures.specs.Nodes.{nodeOf, jump}
+use Rattle.admission.specs.LentTests.{rowsBad, rowBad, offWalk, tenTests, walkTests}
+use Rattle.walk.specs.Calls.{
+  openTests,
+  backTests,
+  valueTests,
+  ratioTests,
+  forwardTests,
+  orOutcome,
+  orForwardOutcome,
+  zeros,
+  rolls,
+  openCall,
+  backCall,
+  worth,
+  valueCall,
+  ratioCall,
+  forwardCall,
+}
 use Rattle.lines.specs.Text.{decimal, signed, field}
 use Rattle.commands.specs.Commands.{lowFirst, operands, commands, decoded, commandAt, entrySize, orderSize}
-use Rattle.desk.specs.Entries.{roomBeside, added}
-use Rattle.desk.specs.Orders.{openIn, backIn, valueIn, ratioIn, forwardIn, countSaid, spreadIn, acted}
-use Rattle.render.specs.Lines.{word, deckWord, fields, told, line, orderLine, deckLine}
-use Rattle.turns.specs.Turn.{entryTurn, orderTurn, turn}
-use Rattle.runs.specs.Running.{listingFrom}
+use Rattle.entries.specs.Draft.{hasRoom, added}
+use Rattle.machine.specs.Rooms.{openInRooms, backInRooms, valueInRooms, ratioInRooms, forwardInRow, countSaid, distributionInRow}
+use Rattle.machine.specs.Transitions.{transitionOf}
+use Rattle.render.specs.Lines.{word, deckWord, fields, answerText, line, orderLine, deckLine}
+use Rattle.execution.specs.Effects.{entryEffect, orderEffect, effectOf}
+use Rattle.interpreter.specs.ListingFrom.{listingFrom}
 use Rattle.deck.specs.Listing.{listing}
 use Rattle.decks.specs.Limits.{times}
 
 -- what makes a line of an answer
 unfoldable pub printed : Unit {0}
-unfolding decimal signed field word deckWord fields told line orderLine deckLine
+unfolding decimal signed field word deckWord fields answerText line orderLine deckLine
 printed = tt
 
+-- losses and payments
+unfoldable paymentsComputed : Unit {0}
+unfolding B half poolLoss trancheLoss trancheOutstanding indexOutstanding defaultPayment premiumPayment
+paymentsComputed = tt
+
+-- net value and hedge ratio
+unfoldable hedgesComputed : Unit {0}
+unfolding netValue changeOf jumpOf signedOf millionths ratioOf
+hedgesComputed = tt
+
+-- one node of a row
+unfoldable legsComputed : Unit {0}
+unfolding rollNode over defaultCash premiumCash mark hazardOf discountOf accrualOf
+legsComputed = tt
+
+-- a sheet as a tree, and its rules
+unfoldable treeComputed : Unit {0}
+unfolding poolLossOf lossOf widthOf outstandingOf treeOf defaultOf premiumOf sumOf defaultMost premiumMost same outflow fromBelow pushed distribution
+treeComputed = tt
+
+-- rows
+unfoldable rowsComputed : Unit {0}
+unfolding tab entry grid any nodeIn rowOf rolled rolledBack anyOver soiled distributionRow
+rowsComputed = tt
+
+-- the checks of a sheet
+unfoldable checksComputed : Unit {0}
+unfolding poolBad listsBad recoveryBad attachmentsBad hazardsBad discountsBad accrualsBad couponsBad first sheetTests
+checksComputed = tt
+
+-- the tests of the calls
+unfoldable testsComputed : Unit {0}
+unfolding nodeOf jump rowsBad rowBad offWalk tenTests walkTests openTests backTests valueTests ratioTests forwardTests
+testsComputed = tt
+
+-- the calls of the walk
+unfoldable callsComputed : Unit {0}
+unfolding orOutcome orForwardOutcome zeros rolls openCall backCall worth valueCall ratioCall forwardCall
+callsComputed = tt
+
+-- commands
+unfoldable commandsComputed : Unit {0}
+unfolding lowFirst operands commands decoded commandAt entrySize orderSize
+commandsComputed = tt
+
+-- entries and orders
+unfoldable machineComputed : Unit {0}
+unfolding hasRoom added openInRooms backInRooms valueInRooms ratioInRooms forwardInRow countSaid distributionInRow transitionOf
+machineComputed = tt
+
+-- the engine, and the deck over it
+unfoldable engineComputed : Unit {0}
+unfolding paymentsComputed hedgesComputed legsComputed treeComputed rowsComputed checksComputed testsComputed callsComputed
+engineComputed = tt
+
 unfoldable pub computed : Unit {0}
-unfolding printed B half poolLoss trancheLoss trancheOutstanding indexOutstanding defaultPayment premiumPayment netValue changeOf jumpOf signedOf millionths ratioOf rollNode over defaultCash premiumCash mark hazardOf discountOf accrualOf poolLossOf lossOf widthOf outstandingOf treeOf defaultOf premiumOf sumOf defaultMost premiumMost same moved fromBelow pushed distribution tab entry grid any nodeIn rowOf rolled rolledBack anyOver soiled spreadRow poolBad listsBad recoveryBad attachmentsBad hazardsBad discountsBad accrualsBad couponsBad first sheetTests nodeOf jump rowsBad rowBad walkBad tenTests twelveTests openTests backTests valueTests ratioTests forwardTests orOutcome orFilled zeros rolls openCall backCall worth valueCall ratioCall forwardCall lowFirst operands commands decoded commandAt entrySize orderSize roomBeside added openIn backIn valueIn ratioIn forwardIn countSaid spreadIn acted entryTurn orderTurn turn listingFrom listing times
+unfolding engineComputed printed commandsComputed machineComputed entryEffect orderEffect effectOf listingFrom listing times
 computed = tt

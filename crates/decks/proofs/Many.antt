@@ -1,4 +1,4 @@
--- Decks too long to be computed: those of many steps, and the longest. Assumes nothing.
+-- Decks too long to be computed: those of many steps, and the longest.
 use Prim.Native.Nat.{ℕ, zero, suc, _+_, _-_, _*_, _≤_, _<_}
 use mathlib.Core.Path.{_≡_, refl, sym, ap, _∙_}
 use mathlib.Core.Bool.{Bool, true, false}
@@ -18,17 +18,17 @@ use Rattle.commands.specs.Commands.{lowFirst, operands, commands, decoded, pick
 use Rattle.register.specs.Events as Register
 use Rattle.register.specs.Register.{issueAnswer}
 use Rattle.walk.specs.Answers.{saidBy}
-use Rattle.desk.specs.Desk.{Desk, blank}
-use Rattle.desk.specs.Entries.{roomBeside, hasRoom, added}
-use Rattle.desk.specs.Orders.{acted}
+use Rattle.entries.specs.Draft.{hasRoom, added}
+use Rattle.machine.specs.Machine.{Machine, freshMachine}
+use Rattle.machine.specs.Transitions.{transitionOf}
 use Rattle.render.specs.Lines.{orderLine, deckLine}
-use Rattle.turns.specs.Turn.{stop, goOn, withSheet, entryTurn, orderTurn, turn}
-use Rattle.turns.proofs.Going.{full-turn}
-use Rattle.runs.specs.Running.{listingFrom}
-use Rattle.runs.proofs.Reaching.{past, on, last}
+use Rattle.execution.specs.Effects.{stop, goOn, withDraft, entryEffect, orderEffect, effectOf}
+use Rattle.execution.proofs.EffectLaws.{full-effect}
+use Rattle.interpreter.specs.ListingFrom.{listingFrom}
+use Rattle.interpreter.proofs.LoopInvariant.{past, on, last}
 use Rattle.deck.specs.Listing.{listing}
 use Rattle.deck.proofs.Printing as Printing
-use Rattle.decks.specs.Limits.{times, step, issueSeven, issued, tooManySteps, unknownFirst, oversized}
+use Rattle.decks.specs.Limits.{times, step, issueSeven, issueLine, tooManySteps, unknownFirst, oversized}
 use Rattle.decks.proofs.Computing.{printed}
 
 -- ---- bytes behind others are read as if they stood alone
@@ -81,26 +81,26 @@ step-read s =
     let whole : leb 8 (length (step ++ s) - 1) ≡ true = le-leb 8 (length (step ++ s) - 1) (omega arith) in
     ap (λ (b : Bool). pick b (Enter entry) CutShort) whole
 
-room-free : (s : Desk) → length (s .entered .discounts) < 3650 → hasRoom entry (s .entered) ≡ true
-unfolding roomBeside
-room-free s h = lt-ltb (length (s .entered .discounts)) 3650 h
+room-free : (s : Machine) → length (s .draft .brought .sheet .discounts) < 3650 → hasRoom entry (s .draft) ≡ true
+unfolding hasRoom
+room-free s h = lt-ltb (length (s .draft .brought .sheet .discounts)) 3650 h
 
-room-full : (s : Desk) → 3650 ≤ length (s .entered .discounts) → hasRoom entry (s .entered) ≡ false
-unfolding roomBeside
-room-full s h = le-ltb (length (s .entered .discounts)) 3650 h
+room-full : (s : Machine) → 3650 ≤ length (s .draft .brought .sheet .discounts) → hasRoom entry (s .draft) ≡ false
+unfolding hasRoom
+room-full s h = le-ltb (length (s .draft .brought .sheet .discounts)) 3650 h
 
-abbrev stepped : Desk → Desk
-stepped s = withSheet s (added entry (s .entered))
+abbrev stepped : Machine → Machine
+stepped s = withDraft s (added entry (s .draft))
 
-step-on : (at : ℕ) (s : Desk) → length (s .entered .discounts) < 3650 → turn (Enter entry) at s ≡ goOn [] (at + 9) (stepped s)
-unfolding turn entryTurn entrySize
-step-on at s h = rw (room-free s h, entryTurn)
+step-on : (at : ℕ) (s : Machine) → length (s .draft .brought .sheet .discounts) < 3650 → effectOf (Enter entry) at s ≡ goOn [] (at + 9) (stepped s)
+unfolding effectOf entryEffect entrySize
+step-on at s h = rw (room-free s h, entryEffect)
 
-step-last : (at : ℕ) (s : Desk) → 3650 ≤ length (s .entered .discounts) → turn (Enter entry) at s ≡ stop (deckLine 20 at)
-unfolding turn
-step-last at s h = full-turn entry at s (room-full s h)
+step-last : (at : ℕ) (s : Machine) → 3650 ≤ length (s .draft .brought .sheet .discounts) → effectOf (Enter entry) at s ≡ stop (deckLine 20 at)
+unfolding effectOf
+step-last at s h = full-effect entry at s (room-full s h)
 
-steps-more : (s : Desk) → length (stepped s .entered .discounts) ≡ length (s .entered .discounts) + 1
+steps-more : (s : Machine) → length (stepped s .draft .brought .sheet .discounts) ≡ length (s .draft .brought .sheet .discounts) + 1
 unfolding added
 steps-more s = simp length-append
 
@@ -112,41 +112,41 @@ length-times zero c = omega arith
 length-times (suc n) c = simp length-append (omega (arith, length-times n c))
 
 -- Where the run stands after n steps.
-record After (deck : List ℕ) (n turns at : ℕ) (s : Desk) : Type 0 where
-  state : Desk
-  prints : listingFrom (n + turns) deck at s ≡ listingFrom turns deck (at + 9 * n) state
-  steps : length (state .entered .discounts) ≡ length (s .entered .discounts) + n
+record After (deck : List ℕ) (n commandsLeft at : ℕ) (s : Machine) : Type 0 where
+  state : Machine
+  prints : listingFrom (n + commandsLeft) deck at s ≡ listingFrom commandsLeft deck (at + 9 * n) state
+  steps : length (state .draft .brought .sheet .discounts) ≡ length (s .draft .brought .sheet .discounts) + n
   register : state .register ≡ s .register
 
-after : (n turns : ℕ) (deck a rest : List ℕ) (at : ℕ) (s : Desk) → deck ≡ a ++ (times n step ++ rest) → at ≡ length a →
-    length (s .entered .discounts) + n ≤ 3650 → After deck n turns at s
+after : (n commandsLeft : ℕ) (deck a rest : List ℕ) (at : ℕ) (s : Machine) → deck ≡ a ++ (times n step ++ rest) → at ≡ length a →
+    length (s .draft .brought .sheet .discounts) + n ≤ 3650 → After deck n commandsLeft at s
 unfolding times
-after zero turns deck a rest at s e p h =
+after zero commandsLeft deck a rest at s e p h =
     record {
       state = s;
-      prints = (λ j. listingFrom (zero-add turns j) deck (sym (add-zero at) j) s);
+      prints = (λ j. listingFrom (zero-add commandsLeft j) deck (sym (add-zero at) j) s);
       steps = sym (add-zero _);
       register = refl;
     }
-after (suc n) turns deck a rest at s e p h =
+after (suc n) commandsLeft deck a rest at s e p h =
     let split : deck ≡ a ++ (step ++ (times n step ++ rest)) = e in
     let long : length deck ≡ length a + (9 + length (times n step ++ rest)) = ap length split ∙ simp length-append (omega arith) in
     let reads : commandAt deck at ≡ Enter entry =
     (λ j. commandAt (split j) (p j)) ∙ command-behind a (step ++ (times n step ++ rest)) ∙ step-read (times n step ++ rest) in
-    let goes : turn (commandAt deck at) at s ≡ goOn [] (at + 9) (stepped s) = ap (λ (c : Command). turn c at s) reads ∙ step-on at s (omega arith) in
-    let one : listingFrom (suc (n + turns)) deck at s ≡ listingFrom (n + turns) deck (at + 9) (stepped s) =
-    on deck at s (n + turns) [] (at + 9) (stepped s) (omega arith) goes in
+    let goes : effectOf (commandAt deck at) at s ≡ goOn [] (at + 9) (stepped s) = ap (λ (c : Command). effectOf c at s) reads ∙ step-on at s (omega arith) in
+    let one : listingFrom (suc (n + commandsLeft)) deck at s ≡ listingFrom (n + commandsLeft) deck (at + 9) (stepped s) =
+    on deck at s (n + commandsLeft) [] (at + 9) (stepped s) (omega arith) goes in
     let more = steps-more s in
     let q : at + 9 ≡ length (a ++ step) = simp length-append (omega arith) in
-    let rest-of = after n turns deck (a ++ step) rest (at + 9) (stepped s) (split ∙ sym (append-assoc a step (times n step ++ rest))) q (omega arith) in
+    let rest-of = after n commandsLeft deck (a ++ step) rest (at + 9) (stepped s) (split ∙ sym (append-assoc a step (times n step ++ rest))) q (omega arith) in
     let place : at + 9 + 9 * n ≡ at + 9 * suc n = omega arith in
     record {
       state = rest-of .state;
       prints =
-          ap (λ (k : ℕ). listingFrom k deck at s) (suc-add n turns)
+          ap (λ (k : ℕ). listingFrom k deck at s) (suc-add n commandsLeft)
           ∙ one
           ∙ rest-of .prints
-          ∙ ap (λ (k : ℕ). listingFrom turns deck k (rest-of .state)) place;
+          ∙ ap (λ (k : ℕ). listingFrom commandsLeft deck k (rest-of .state)) place;
       steps = omega (arith, rest-of .steps);
       register = rest-of .register;
     }
@@ -159,14 +159,14 @@ module _ (n : ℕ) (few : n ≤ 3650) (rest : List ℕ) where
   long : length deck ≡ 9 * n + length rest
   long = simp length-append (omega (arith, length-times n step))
 
-  full : After deck n (8 * n + length rest) 0 blank
-  full = after n (8 * n + length rest) deck [] rest 0 blank refl refl (omega arith)
+  full : After deck n (8 * n + length rest) 0 freshMachine
+  full = after n (8 * n + length rest) deck [] rest 0 freshMachine refl refl (omega arith)
 
   from-there : length rest ≤ 9 → listing deck ≡ listingFrom (8 * n + length rest) deck (9 * n) (full .state)
   from-there h =
-      let turns : length deck ≡ n + (8 * n + length rest) = omega (arith, long) in
+      let commandsLeft : length deck ≡ n + (8 * n + length rest) = omega (arith, long) in
       sym (Printing.sized deck (omega (arith, long)))
-      ∙ ap (λ (k : ℕ). listingFrom k deck 0 blank) turns
+      ∙ ap (λ (k : ℕ). listingFrom k deck 0 freshMachine) commandsLeft
       ∙ full .prints
       ∙ ap (λ (k : ℕ). listingFrom (8 * n + length rest) deck k (full .state)) (zero-add (9 * n))
 
@@ -178,22 +178,22 @@ issue-read : commandAt issueSeven 0 ≡ Act (Issue 7)
 unfolding commandAt operands decoded commands lowFirst
 issue-read = refl
 
-issue-on : (at : ℕ) (s : Desk) → s .register ≡ Register.blank → turn (Act (Issue 7)) at s ≡ goOn issued (at + 2) (acted (Issue 7) s .next)
-unfolding turn orderTurn orderSize acted printed
-issue-on at s e = ap (λ (g : List ℕ). goOn (orderLine (Issue 7) (saidBy (issueAnswer g 7))) (at + 2) (acted (Issue 7) s .next)) e
+issue-on : (at : ℕ) (s : Machine) → s .register ≡ Register.blankRegister → effectOf (Act (Issue 7)) at s ≡ goOn issueLine (at + 2) (transitionOf (Issue 7) s .next)
+unfolding effectOf orderEffect orderSize transitionOf printed
+issue-on at s e = ap (λ (g : List ℕ). goOn (orderLine (Issue 7) (saidBy (issueAnswer g 7))) (at + 2) (transitionOf (Issue 7) s .next)) e
 
-pub steps : (n : ℕ) → n ≤ 3650 → listing (times n step ++ issueSeven) ≡ issued
+pub steps : (n : ℕ) → n ≤ 3650 → listing (times n step ++ issueSeven) ≡ issueLine
 steps n few =
     let s = full n few issueSeven .state in
-    let t = acted (Issue 7) s .next in
+    let t = transitionOf (Issue 7) s .next in
     let d = deck n few issueSeven in
-    let goes : turn (commandAt d (9 * n)) (9 * n) s ≡ goOn issued (9 * n + 2) t =
-    ap (λ (c : Command). turn c (9 * n) s) (read-there n few issueSeven ∙ issue-read) ∙ issue-on (9 * n) s (full n few issueSeven .register) in
-    let turns : 8 * n + 2 ≡ suc (8 * n + 1) = omega arith in
+    let goes : effectOf (commandAt d (9 * n)) (9 * n) s ≡ goOn issueLine (9 * n + 2) t =
+    ap (λ (c : Command). effectOf c (9 * n) s) (read-there n few issueSeven ∙ issue-read) ∙ issue-on (9 * n) s (full n few issueSeven .register) in
+    let commandsLeft : 8 * n + 2 ≡ suc (8 * n + 1) = omega arith in
     from-there n few issueSeven (lit≤ tt)
-    ∙ ap (λ (k : ℕ). listingFrom k d (9 * n) s) turns
-    ∙ on d (9 * n) s (8 * n + 1) issued (9 * n + 2) t (omega (arith, long n few issueSeven)) goes
-    ∙ ap (λ (l : List ℕ). issued ++ l) (past d (9 * n + 2) t (8 * n + 1) (omega (arith, long n few issueSeven)))
+    ∙ ap (λ (k : ℕ). listingFrom k d (9 * n) s) commandsLeft
+    ∙ on d (9 * n) s (8 * n + 1) issueLine (9 * n + 2) t (omega (arith, long n few issueSeven)) goes
+    ∙ ap (λ (l : List ℕ). issueLine ++ l) (past d (9 * n + 2) t (8 * n + 1) (omega (arith, long n few issueSeven)))
 
 line-there : deckLine 20 32850 ≡ tooManySteps
 unfolding printed
@@ -204,8 +204,8 @@ one-step-more =
     let few : 3650 ≤ 3650 = lit≤ tt in
     let s = full 3650 few step .state in
     let d = deck 3650 few step in
-    let goes : turn (commandAt d 32850) 32850 s ≡ stop (deckLine 20 32850) =
-    ap (λ (c : Command). turn c 32850 s) (read-there 3650 few step ∙ ap (λ (l : List ℕ). commandAt l 0) (sym (append-nil step)) ∙ step-read [])
+    let goes : effectOf (commandAt d 32850) 32850 s ≡ stop (deckLine 20 32850) =
+    ap (λ (c : Command). effectOf c 32850 s) (read-there 3650 few step ∙ ap (λ (l : List ℕ). commandAt l 0) (sym (append-nil step)) ∙ step-read [])
     ∙ step-last 32850 s (omega (arith, full 3650 few step .steps)) in
     from-there 3650 few step (lit≤ tt) ∙ last d 32850 s 29208 (deckLine 20 32850) (omega (arith, long 3650 few step)) goes ∙ line-there
 
@@ -219,13 +219,13 @@ oversized-line : deckLine 20 65536 ≡ oversized
 unfolding printed
 oversized-line = refl
 
-unknown : (s : List ℕ) → turn (commandAt (0 ∷ s) 0) 0 blank ≡ stop (deckLine 18 0)
-unfolding turn commandAt
+unknown : (s : List ℕ) → effectOf (commandAt (0 ∷ s) 0) 0 freshMachine ≡ stop (deckLine 18 0)
+unfolding effectOf commandAt
 unknown s = refl
 
 pub bytes : (s : List ℕ) → length s ≤ 65535 → listing (0 ∷ s) ≡ unknownFirst
 bytes s h =
-    sym (Printing.sized (0 ∷ s) (omega arith)) ∙ last (0 ∷ s) 0 blank (length s) (deckLine 18 0) (omega arith) (unknown s) ∙ unknown-line
+    sym (Printing.sized (0 ∷ s) (omega arith)) ∙ last (0 ∷ s) 0 freshMachine (length s) (deckLine 18 0) (omega arith) (unknown s) ∙ unknown-line
 
 pub one-byte-more : (s : List ℕ) → 65536 ≤ length s → listing (0 ∷ s) ≡ oversized
 one-byte-more s h = sym (Printing.oversized (0 ∷ s) (omega arith)) ∙ oversized-line

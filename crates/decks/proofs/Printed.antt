@@ -1,11 +1,11 @@
--- What decks print, by computation; of the longest by laws. Assumes nothing.
+-- What decks print, by computation; of the longest by laws.
 use mathlib.Core.Path.{refl}
 use native.Mathlib.Omega.{arith}
-use Rattle.decks.specs.Printed.{Called, Opened, Compared, Filled, Long, Printed}
+use Rattle.decks.specs.Printed.{CallListings, OpenListings, RatioListings, FullListings, LongListings, DeckListings}
 use Rattle.decks.proofs.Computing.{computed}
 use Rattle.decks.proofs.Many as Many
 
-called : Called
+called : CallListings
 unfolding computed
 called =
     record {
@@ -16,7 +16,7 @@ called =
       empty = refl;
     }
 
-opened : Opened
+opened : OpenListings
 unfolding computed
 opened =
     record {
@@ -37,7 +37,7 @@ opened =
       first-of-all = refl;
     }
 
-compared : Compared
+compared : RatioListings
 unfolding computed
 compared =
     record {
@@ -46,7 +46,7 @@ compared =
       flat = refl;
     }
 
-filled : Filled
+filled : FullListings
 unfolding computed
 filled =
     record {
@@ -59,7 +59,7 @@ filled =
       one-hazard-more = refl;
     }
 
-long : Long
+long : LongListings
 long =
     record {
       steps = Many.steps _ (omega arith);
@@ -68,5 +68,5 @@ long =
       one-byte-more = λ s h. Many.one-byte-more s (omega arith);
     }
 
-pub printed : Printed
+pub printed : DeckListings
 printed = record { called = called; opened = opened; compared = compared; filled = filled; long = long }

@@ -45,8 +45,8 @@ workedListing =
 
 -- ---- Three names, two steps and two slices, on which roundings show
 
-abbrev pub uneven : List ℕ
-uneven =
+abbrev pub unevenSheet : List ℕ
+unevenSheet =
     0x01 ∷ 0x03 ∷ 0x02 ∷ 0x00 ∷ 0x02 ∷ 0x80 ∷ 0x93 ∷ 0xDC ∷ 0x14 ∷ 0xC8  -- pool 3 2 2 350000000 200
     ∷ 0x02 ∷ 0x80 ∷ 0x96 ∷ 0x98 ∷ 0x00  -- cut 10000000
     ∷ 0x02 ∷ 0x81 ∷ 0xD1 ∷ 0xF0 ∷ 0x08  -- cut 150000001

@@ -242,8 +242,8 @@ abbrev pub issueSeven : List ℕ
 issueSeven =
     0x06 ∷ 0x07 ∷ []  -- issue 7
 
-abbrev pub issued : List ℕ
-issued =
+abbrev pub issueLine : List ℕ
+issueLine =
     105 ∷ 115 ∷ 115 ∷ 117 ∷ 101 ∷ 32 ∷ 48 ∷ 10 ∷ []  -- issue 0
 
 abbrev pub tooManySteps : List ℕ

@@ -4,19 +4,24 @@ use mathlib.Core.Path.{_≡_}
 use mathlib.Core.List.{List, [], _∷_, _++_}
 use lib.ListN.{length}
 use Rattle.deck.specs.Listing.{listing}
-use Rattle.decks.specs.Calls.{workedDeck, workedListing, uneven, acceptedCalls, acceptedListing, refusedCalls, refusedListing, noPoolDeck, noPoolListing}
-use Rattle.decks.specs.Limits.{none, one, belowMillion, million, tenMillion, overTenMillion, billion, overBillion, single, coupon, issueOpen, opening, opens, ratios, largestRatio, offScale, flatHedge, eightSlices, secondPool, poolCutShort, secondPoolCutShort, nineCuts, tenthCut, tooManyCuts, hazardAndStep, nineCoupons, tenthCoupon, tooManyCoupons, sliceCalls, sliceListing, times, manyNames, hazard, nameCalls, nameListing, tooManyHazards, step, issueSeven, issued, tooManySteps, unknownFirst, oversized}
+use Rattle.decks.specs.Calls.{workedDeck, workedListing, unevenSheet, acceptedCalls, acceptedListing, refusedCalls, refusedListing}
+use Rattle.decks.specs.Calls.{noPoolDeck, noPoolListing}
+use Rattle.decks.specs.Limits.{none, one, belowMillion, million, tenMillion, overTenMillion, billion, overBillion, single, coupon}
+use Rattle.decks.specs.Limits.{issueOpen, opening, opens, ratios, largestRatio, offScale, flatHedge, eightSlices, secondPool}
+use Rattle.decks.specs.Limits.{poolCutShort, secondPoolCutShort, nineCuts, tenthCut, tooManyCuts, hazardAndStep, nineCoupons}
+use Rattle.decks.specs.Limits.{tenthCoupon, tooManyCoupons, sliceCalls, sliceListing, times, manyNames, hazard, nameCalls}
+use Rattle.decks.specs.Limits.{nameListing, tooManyHazards, step, issueSeven, issueLine, tooManySteps, unknownFirst, oversized}
 
 -- Every command and every kind of line, accepted and refused.
-pub record Called : Type 0 where
+pub record CallListings : Type 0 where
   pub worked : listing workedDeck ≡ workedListing
-  pub accepted : listing (uneven ++ acceptedCalls) ≡ acceptedListing
-  pub refused : listing (uneven ++ refusedCalls) ≡ refusedListing
+  pub accepted : listing (unevenSheet ++ acceptedCalls) ≡ acceptedListing
+  pub refused : listing (unevenSheet ++ refusedCalls) ≡ refusedListing
   pub no-pool : listing noPoolDeck ≡ noPoolListing
   pub empty : listing [] ≡ []
 
 -- Refusals 2 to 8 by open: of the recovery, the cut, the hazard, the discount, the accrual, and the coupons of slice and index.
-pub record Opened : Type 0 where
+pub record OpenListings : Type 0 where
   pub most : listing (opening billion billion billion billion billion tenMillion tenMillion) ≡ opens 0
   pub least : listing (opening none one none one one none none) ≡ opens 0
   pub coupon-missing : listing (single none one none one one ++ (coupon none ++ issueOpen)) ≡ opens 2
@@ -34,13 +39,13 @@ pub record Opened : Type 0 where
   pub first-of-all : listing (opening overBillion overBillion overBillion none none overTenMillion overTenMillion) ≡ opens 3
 
 -- Refusals 15 and 16.
-pub record Compared : Type 0 where
+pub record RatioListings : Type 0 where
   pub largest : listing (ratios belowMillion one) ≡ largestRatio
   pub off-scale : listing (ratios million one) ≡ offScale
   pub flat : listing (ratios tenMillion none) ≡ flatHedge
 
 -- Refusal 20: a second pool, the tenth cut and coupon, hazard 126. As many as there may be go on to a line.
-pub record Filled : Type 0 where
+pub record FullListings : Type 0 where
   pub second-pool : listing (eightSlices ++ eightSlices) ≡ secondPool
   pub cut-short-first : listing (eightSlices ++ poolCutShort) ≡ secondPoolCutShort
   pub nine : listing (eightSlices ++ (nineCuts ++ (hazardAndStep ++ (nineCoupons ++ sliceCalls)))) ≡ sliceListing
@@ -50,16 +55,16 @@ pub record Filled : Type 0 where
   pub one-hazard-more : listing (manyNames ++ (times 125 hazard ++ hazard)) ≡ tooManyHazards
 
 -- Refusal 20: step 3,651 and byte 65,537.
-pub record Long : Type 0 where
-  pub steps : listing (times 3_650 step ++ issueSeven) ≡ issued
+pub record LongListings : Type 0 where
+  pub steps : listing (times 3_650 step ++ issueSeven) ≡ issueLine
   pub one-step-more : listing (times 3_650 step ++ step) ≡ tooManySteps
   pub bytes : (s : List ℕ) → length s ≤ 65_535 → listing (0x00 ∷ s) ≡ unknownFirst
   pub one-byte-more : (s : List ℕ) → 65_536 ≤ length s → listing (0x00 ∷ s) ≡ oversized
 
 -- All of them. The commands of a sheet stand in the order pool, cuts, hazards, steps, coupons, and before every call.
-pub record Printed : Type 0 where
-  pub called : Called
-  pub opened : Opened
-  pub compared : Compared
-  pub filled : Filled
-  pub long : Long
+pub record DeckListings : Type 0 where
+  pub called : CallListings
+  pub opened : OpenListings
+  pub compared : RatioListings
+  pub filled : FullListings
+  pub long : LongListings

@@ -1,4 +1,4 @@
--- A distribution rests on names and hazards alone. Assumes nothing.
+-- A distribution rests on names and hazards alone.
 use Prim.Native.Nat.{ℕ, zero, suc, _+_, _-_, _*_, _<_}
 use mathlib.Core.Path.{_≡_, refl, ap, ap₂, sym, _∙_}
 use mathlib.Core.Bool.{cond}
@@ -9,10 +9,11 @@ use lib.ListN.{length, getD}
 use lib.Dec.{ltb}
 use Rattle.cash.specs.Units.{B, half}
 use Rattle.tree.specs.Paths.{Tree}
-use Rattle.tree.specs.Sheet.{Sheet, hazardOf, treeOf}
-use Rattle.tree.specs.Forward.{same, moved, fromBelow, pushed, distribution}
+use Rattle.sheet.specs.Terms.{Terms}
+use Rattle.tree.specs.Sheet.{hazardOf, treeOf}
+use Rattle.tree.specs.Forward.{same, outflow, fromBelow, pushed, distribution}
 use Rattle.rows.specs.Tables.{tab}
-use Rattle.rows.specs.Rows.{spreadRow}
+use Rattle.rows.specs.Rows.{distributionRow}
 use Rattle.rows.proofs.Tables.{length-tab, getD-tab, is-tab}
 use Rattle.forward.specs.Steps.{hazardSheet, pushedRow}
 
@@ -21,8 +22,8 @@ tab-cong n f g h = is-tab (tab n f) n g (length-tab n f) (λ i l. getD-tab n f i
 
 -- two trees with the same hazards at steps s and r, and two rows that agree on the first n counts
 module _ (t u : Tree) (s r : ℕ) (alike : (k : ℕ) → t .hazard s k ≡ u .hazard r k) (q p : ℕ → ℕ) (n : ℕ) (agree : (k : ℕ) → k < n → q k ≡ p k) where
-  moved-alike : (k : ℕ) → k < n → moved t s q k ≡ moved u r p k
-  unfolding moved
+  moved-alike : (k : ℕ) → k < n → outflow t s q k ≡ outflow u r p k
+  unfolding outflow
   moved-alike k l = ap₂ (λ a b. half (a * b)) (agree k l) (alike k)
 
   pushed-alike : (k : ℕ) → k < n → pushed t s q k ≡ pushed u r p k
@@ -38,33 +39,33 @@ distribution-alike t u alike (suc h) k =
     pushed-alike t u (suc h) (suc h) (alike (suc h)) (distribution t h) (distribution u h) (suc k) (λ i l. distribution-alike t u alike h i) k (lt-suc-self k)
 
 -- the hazards of sheets with the same names and hazards, at any two steps
-module _ (x y : Sheet) (names : x .names ≡ y .names) (hazards : x .hazards ≡ y .hazards) where
+module _ (x y : Terms) (names : x .names ≡ y .names) (hazards : x .hazards ≡ y .hazards) where
   hazards-alike : (s r k : ℕ) → treeOf x .hazard s k ≡ treeOf y .hazard r k
   unfolding treeOf hazardOf
   hazards-alike s r k = ap₂ (λ n l. cond (ltb k n) (getD l k 0) 0) names hazards
 
   -- the other lists play no part
-  pub spread-alike : (i : ℕ) → spreadRow x i ≡ spreadRow y i
-  unfolding spreadRow
-  spread-alike i =
+  pub distribution-part : (i : ℕ) → distributionRow x i ≡ distributionRow y i
+  unfolding distributionRow
+  distribution-part i =
       ap (λ n. tab (suc n) (distribution (treeOf x) i)) names
       ∙ tab-cong (suc (y .names)) _ _ (λ k l. distribution-alike (treeOf x) (treeOf y) (λ s j. hazards-alike s s j) i k)
 
 -- the row of a sheet of hazards alone, as code starts it and steps it
 module _ (hazards : List ℕ) where
   abbrev row : ℕ → List ℕ
-  row h = spreadRow (hazardSheet hazards) h
+  row h = distributionRow (hazardSheet hazards) h
 
   pub row-long : (h : ℕ) → length (row h) ≡ length hazards + 1
-  unfolding spreadRow hazardSheet
+  unfolding distributionRow hazardSheet
   row-long h = length-tab _ _ ∙ sym (add-one _)
 
   pub row-start : (n : ℕ) → n ≡ length hazards + 1 → tab n (λ k. B * same 0 k) ≡ row 0
-  unfolding spreadRow hazardSheet distribution
+  unfolding distributionRow hazardSheet distribution
   row-start n e = ap (λ n. tab n (λ k. B * same 0 k)) (e ∙ add-one _)
 
   pub row-step : (h : ℕ) → pushedRow hazards (row h) ≡ row (suc h)
-  unfolding pushedRow spreadRow distribution
+  unfolding pushedRow distributionRow distribution
   row-step h =
       let x = hazardSheet hazards in
       let q : ℕ → ℕ = distribution (treeOf x) h in
@@ -73,7 +74,8 @@ module _ (hazards : List ℕ) where
       (pushed-alike (treeOf x) (treeOf x) 1 (suc h) (hazards-alike x x refl refl 1 (suc h)) (λ k. getD (tab (suc (x .names)) q) k 0) q (suc (x .names))
       (λ k l. getD-tab (suc (x .names)) q k l))
 
--- a sheet of hazards alone spreads as every sheet with its hazards
-pub bare-spread : (x : Sheet) → x .names ≡ length (x .hazards) → (i : ℕ) → spreadRow (hazardSheet (x .hazards)) i ≡ spreadRow x i
+-- hazards that are those of a sheet give its distribution
+pub hazards-enough : (x : Terms) (hazards : List ℕ) → hazards ≡ x .hazards → length (x .hazards) ≡ x .names →
+    (i : ℕ) → distributionRow (hazardSheet hazards) i ≡ distributionRow x i
 unfolding hazardSheet
-bare-spread x names i = spread-alike (hazardSheet (x .hazards)) x (sym names) refl i
+hazards-enough x hazards e names i = distribution-part (hazardSheet hazards) x (ap length e ∙ names) e i

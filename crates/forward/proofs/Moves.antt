@@ -1,4 +1,4 @@
--- A row that is pushed in place from its last count down to the count k. Assumes nothing.
+-- A row that is pushed in place from its last count down to the count k.
 use Prim.Native.Nat.{ℕ, zero, suc, _+_, _-_, _*_, _^_, _≤_, _<_}
 use mathlib.Core.Path.{_≡_, refl, ap, ap₂, sym, _∙_}
 use mathlib.Core.Bool.{cond}
@@ -15,7 +15,7 @@ use Rattle.cash.specs.Units.{B, half}
 use Rattle.cash.proofs.Rounding.{half-most, half-whole}
 use Rattle.tree.specs.Paths.{Tree}
 use Rattle.tree.specs.Sheet.{treeOf, hazardOf}
-use Rattle.tree.specs.Forward.{same, moved, fromBelow, pushed}
+use Rattle.tree.specs.Forward.{same, outflow, fromBelow, pushed}
 use Rattle.rows.proofs.Tables.{is-tab}
 use Rattle.forward.specs.Steps.{hazardSheet, pushedRow}
 
@@ -33,16 +33,16 @@ pub product-fits : (x y : ℕ) → x ≤ B → y ≤ B → x * y < 2 ^ 64
 unfolding B
 product-fits x y h l = omega (arith, mul-le-mul h l)
 
-pub moved-none : (t : Tree) (s : ℕ) (q : ℕ → ℕ) (k : ℕ) → t .hazard s k ≡ 0 → moved t s q k ≡ 0
-unfolding moved
+pub moved-none : (t : Tree) (s : ℕ) (q : ℕ → ℕ) (k : ℕ) → t .hazard s k ≡ 0 → outflow t s q k ≡ 0
+unfolding outflow
 moved-none t s q k z = ap (λ p. half (q k * p)) z ∙ ap half (mul-zero (q k)) ∙ half-none
 
 -- what moves from each count of a row
 pub moves : List ℕ → List ℕ → ℕ → ℕ
-moves hazards row = moved (treeOf (hazardSheet hazards)) 1 (λ k. getD row k 0)
+moves hazards row = outflow (treeOf (hazardSheet hazards)) 1 (λ k. getD row k 0)
 
 pub moves-is : (hazards row : List ℕ) (k : ℕ) → k < length hazards → moves hazards row k ≡ half (getD row k 0 * getD hazards k 0)
-unfolding moves moved treeOf hazardOf hazardSheet
+unfolding moves outflow treeOf hazardOf hazardSheet
 moves-is hazards row k l = ap (λ b. half (getD row k 0 * cond b (getD hazards k 0) 0)) (lt-ltb k (length hazards) l)
 
 -- no default comes from the last count

@@ -1,4 +1,4 @@
--- A distribution always totals B, so no count holds more than B. Assumes nothing.
+-- A distribution always totals B, so no count holds more than B.
 use Prim.Native.Nat.{ℕ, zero, suc, _+_, _≤_, _<_, zero-le}
 use mathlib.Core.Path.{_≡_, ap}
 use mathlib.Core.Bool.{Bool, true, false, cond}
@@ -15,7 +15,7 @@ use Rattle.tree.specs.Sheet.{hazardOf, discountOf, treeOf}
 use Rattle.tree.specs.Forward.{distribution}
 use Rattle.tree.proofs.Forward.{distribution-total}
 use Rattle.rows.specs.Tables.{tab}
-use Rattle.rows.specs.Rows.{spreadRow}
+use Rattle.rows.specs.Rows.{distributionRow}
 use Rattle.rows.proofs.Tables.{length-tab, getD-tab}
 use Rattle.forward.specs.Steps.{hazardSheet}
 use Rattle.forward.proofs.Moves.{last-none}
@@ -44,8 +44,8 @@ module _ (hazards : List ℕ) (most : (k : ℕ) → getD hazards k 0 ≤ B) wher
     shrinks = λ s. zero-le;
   }
 
-  count-most : (h k : ℕ) → Dec (k < suc (hazardSheet hazards .names)) → getD (spreadRow (hazardSheet hazards) h) k 0 ≤ B
-  unfolding spreadRow treeOf
+  count-most : (h k : ℕ) → Dec (k < suc (hazardSheet hazards .names)) → getD (distributionRow (hazardSheet hazards) h) k 0 ≤ B
+  unfolding distributionRow treeOf
   count-most h k (yes p) =
       let x = hazardSheet hazards in
       let q : ℕ → ℕ = distribution (treeOf x) h in
@@ -57,5 +57,5 @@ module _ (hazards : List ℕ) (most : (k : ℕ) → getD hazards k 0 ≤ B) wher
       le-trans (le-of-eq (List·getD-eq-default (tab n q) 0 l)) zero-le
 
   -- no count holds more than B
-  pub row-most : (h : ℕ) (row : List ℕ) → row ≡ spreadRow (hazardSheet hazards) h → (k : ℕ) → getD row k 0 ≤ B
+  pub row-most : (h : ℕ) (row : List ℕ) → row ≡ distributionRow (hazardSheet hazards) h → (k : ℕ) → getD row k 0 ≤ B
   row-most h row e k = rw e (count-most h k (decLt k (suc (hazardSheet hazards .names))))

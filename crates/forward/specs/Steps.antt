@@ -2,12 +2,13 @@
 use Prim.Native.Nat.{ℕ}
 use mathlib.Core.List.{List, []}
 use lib.ListN.{length, getD}
-use Rattle.tree.specs.Sheet.{Sheet, treeOf}
+use Rattle.sheet.specs.Terms.{Terms}
+use Rattle.tree.specs.Sheet.{treeOf}
 use Rattle.tree.specs.Forward.{pushed}
 use Rattle.rows.specs.Tables.{tab}
 
 -- A sheet of hazards alone: a distribution rests on nothing else.
-unfoldable pub hazardSheet : List ℕ → Sheet
+unfoldable pub hazardSheet : List ℕ → Terms
 hazardSheet hazards =
     record {
       names = length hazards;

@@ -1,16 +1,15 @@
 // The distribution of the default count, forward in time.
 ghost use mathlib.Core.Path.{_≡_};
-ghost use mathlib.Core.List.{[]};
 ghost use Prim.Native.Nat.{ℕ, _+_, _*_, _≤_, _<_};
 ghost use lib.ListN.{length, getD};
 ghost use Rattle.cash.specs.Units.{B};
 ghost use Rattle.tree.specs.Forward.{same};
 ghost use Rattle.rows.specs.Tables.{tab};
-ghost use Rattle.rows.specs.Rows.{sheetOf, spreadRow};
-ghost use Rattle.forward.specs.Steps.{pushedRow};
+ghost use Rattle.rows.specs.Rows.{distributionRow};
+ghost use Rattle.forward.specs.Steps.{hazardSheet, pushedRow};
 
 // B at the count 0 and 0 elsewhere, whatever the row held.
-pub fn start(row: &mut [u64])
+fn start(row: &mut [u64])
     requires { ⌜ 0 < length (now row) ⌝ }
     ensures { λ _. ⌜ now (row .exit) ≡ tab (length (now (row .entry))) (λ k. B * same 0 k) ⌝ }
 {
@@ -24,7 +23,7 @@ pub fn start(row: &mut [u64])
 }
 
 // One step in place, from high counts to low ones: so every move is taken from the old row.
-pub fn push(row: &mut [u64], hazards: &[u64])
+fn push(row: &mut [u64], hazards: &[u64])
     requires { ⌜ length (now row) ≡ length (now hazards) + 1 ⌝ }
     requires { ⌜ ((k : ℕ) → getD (now row) k 0 ≤ B) ⌝ }
     requires { ⌜ ((k : ℕ) → getD (now hazards) k 0 ≤ B) ⌝ }
@@ -42,12 +41,11 @@ pub fn push(row: &mut [u64], hazards: &[u64])
     }
 }
 
-// The distribution after so many steps, whatever the row held. Of the pool only the contract speaks: its names are as many as its hazards.
-pub fn spread(pool: rows::Pool, hazards: &[u64], row: &mut [u64], steps: usize)
-    requires { ⌜ pool .names ≡ length (now hazards) ⌝ }
-    requires { ⌜ length (now row) ≡ pool .names + 1 ⌝ }
+// The distribution after so many steps, by the hazards of as many names, whatever the row held.
+pub fn distribute(hazards: &[u64], row: &mut [u64], steps: usize)
+    requires { ⌜ length (now row) ≡ length (now hazards) + 1 ⌝ }
     requires { ⌜ ((k : ℕ) → getD (now hazards) k 0 ≤ B) ⌝ }
-    ensures { λ _. ⌜ now (row .exit) ≡ spreadRow (sheetOf pool [] (now (hazards .entry)) [] []) steps ⌝ }
+    ensures { λ _. ⌜ now (row .exit) ≡ distributionRow (hazardSheet (now (hazards .entry))) steps ⌝ }
 {
     start(row);
     let mut step = 0;

@@ -1,4 +1,4 @@
--- Numbers as the definitions print them. Assumes nothing.
+-- Numbers as the definitions print them.
 use mathlib.Core.Path.{_≡_, refl}
 use mathlib.Core.List.{[], _∷_}
 use lib.IntN.{pos, negsuc}

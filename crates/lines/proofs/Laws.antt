@@ -1,4 +1,4 @@
--- Laws of the definitions that the contracts of `lines` cite. Assumes nothing.
+-- Laws of the definitions that the contracts of `lines` cite.
 use Prim.Native.Nat.{ℕ, zero, suc, _+_, _/_, _%_, _^_, _≤_, _<_}
 use mathlib.Core.Path.{_≡_, refl, sym, ap, _∙_, subst}
 use mathlib.Core.Bool.{Bool, true, false}

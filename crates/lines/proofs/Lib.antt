@@ -1,3 +1,3 @@
 pub mod Examples
 pub mod Laws
-pub mod Negated
+pub mod Written

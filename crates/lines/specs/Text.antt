@@ -1,5 +1,4 @@
 -- What the contracts of `lines` cite: a number as document 01, 'Deck and printing program', prints it, and a buffer with text written into it.
--- Assumes nothing.
 use Prim.Native.Nat.{ℕ, zero, suc, _+_, _/_, _%_, _≤_}
 use mathlib.Core.Path.{_≡_}
 use mathlib.Core.Bool.{true, false}

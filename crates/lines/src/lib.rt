@@ -1,11 +1,11 @@
 // Text of a listing (document 01, 'Deck and printing program'), written into a lent buffer from a place on.
 // Each function answers the place after what it wrote.
-ghost use mathlib.Core.Path.{_≡_};
 ghost use Prim.Native.Nat.{_+_, _≤_};
-ghost use lib.IntN.{natAbs, pos};
+ghost use lib.IntN.{pos};
 ghost use mathlib.Core.List.{[], _∷_};
 ghost use lib.ListN.{length};
 ghost use Rattle.lines.specs.Text.{Wrote, decimal, signed, field};
+use cash::magnitude;
 
 // Copies text.
 pub fn put_bytes(out: &mut [u8], at: usize, text: &[u8]) -> usize
@@ -35,19 +35,8 @@ pub fn put_decimal(out: &mut [u8], at: usize, n: u64) -> usize
     }
 }
 
-// x without its sign. The least i64 has no negation, but one more than it has.
-fn magnitude(x: i64) -> u64
-    ensures { λ r. ⌜ r ≡ natAbs x ⌝ }
-{
-    if x < 0 {
-        (-(x + 1)) as u64 + 1
-    } else {
-        x as u64
-    }
-}
-
 // Writes x in decimal, with a minus sign if it is negative.
-pub fn put_signed(out: &mut [u8], at: usize, x: i64) -> usize
+pub(crate) fn put_signed(out: &mut [u8], at: usize, x: i64) -> usize
     requires { ⌜ at + length (signed x) ≤ length (now out) ⌝ }
     ensures { λ r. ⌜ Wrote (now (out .entry)) at (signed x) (now (out .exit)) r ⌝ }
 {

@@ -1,4 +1,4 @@
--- What the loops over a list know of the numbers that they passed. Assumes nothing.
+-- What the loops over a list know of the numbers that they passed.
 use Prim.Native.Nat.{ℕ, suc, pred, _+_, _-_, _≤_, _<_}
 use mathlib.Core.Path.{_≡_, refl, sym, ap, _∙_}
 use mathlib.Core.Bool.{Bool, true, false, true≢false}
@@ -12,9 +12,9 @@ use borrow.Author.Tests.{le-leb, lt-leb, lt-ltb, le-ltb}
 use lib.ListN.{length, getD, drop, drop-of-length-le}
 use lib.Seq.{drop-cons}
 use lib.Dec.{leb, ltb}
-use Rattle.tree.specs.Sheet.{sumOf}
+use Rattle.sheet.specs.Terms.{sumOf}
 use Rattle.rows.specs.Tables.{any}
-use Rattle.rows.proofs.Search.{met-left, met-right, any-hit, any-missed, any-none, any-cong}
+use Rattle.rows.proofs.Search.{met-left, any-hit, any-missed, any-none, any-cong}
 use Rattle.lists.specs.Outside.{outside}
 
 -- A search that has met nothing below i.
@@ -99,9 +99,6 @@ summed-all l i total h e = let none : sumOf (drop i l) ≡ 0 = ap sumOf (drop-of
 -- A number outside its limits, below or above.
 pub below : (least most y : ℕ) → y < least → outside least most y ≡ true
 below least most y h = met-left (ltb y least) (ltb most y) (lt-ltb y least h)
-
-pub above : (least most y : ℕ) → most < y → outside least most y ≡ true
-above least most y h = met-right (ltb y least) (ltb most y) (lt-ltb most y h)
 
 -- No number is below 0.
 only-above : (most y : ℕ) → outside 0 most y ≡ ltb most y

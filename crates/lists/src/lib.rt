@@ -5,7 +5,7 @@ ghost use Prim.Native.Nat.{ℕ, suc, pred, _+_, _≤_, _<_};
 ghost use lib.ListN.{length, getD};
 ghost use lib.Dec.{ltb, leb};
 ghost use Rattle.cash.specs.Units.{B};
-ghost use Rattle.tree.specs.Sheet.{sumOf};
+ghost use Rattle.sheet.specs.Terms.{sumOf};
 ghost use Rattle.rows.specs.Tables.{any};
 ghost use Rattle.lists.specs.Outside.{outside};
 

@@ -1,8 +1,7 @@
 -- What a cut write may leave: the bytes, what they say, and every other byte as it was.
--- Assumes nothing.
 use mathlib.Core.Path.{_≡_, refl, sym, _∙_, ap, subst}
 use mathlib.Core.Logic.{_≢_}
-use mathlib.Core.Bool.{Bool, true, false, not, _&&_, false≢true}
+use mathlib.Core.Bool.{Bool, true, false, not, _&&_, false≢true, cond}
 use mathlib.Core.List.{List}
 use Prim.Native.Nat.{ℕ, zero, suc, _<_}
 use native.Mathlib.Nat.{not-suc-le-zero}
@@ -14,10 +13,10 @@ use lib.ListN.{length, getD, length-set, List·getD-eq-default}
 use lib.Seq.{getD-set-same, getD-set-other}
 use Rattle.register.specs.declared.answers.Status.{Status}
 use Rattle.register.specs.declared.answers.Status.the-variants as Status
-use Rattle.register.specs.declared.answers.Answer.{Answer}
-use Rattle.register.specs.Register.{choose, statusOf, Write, issue, withdraw, byteOf, answerOf, isAccepted}
+use Rattle.register.specs.declared.answers.WriteAnswer.{WriteAnswer}
+use Rattle.register.specs.Register.{statusOf, Write, issue, withdraw, byteOf, answerOf, isAccepted}
 use Rattle.register.specs.Cut.{mayBeLeft, cutBytes, isOneOf, CutsFind}
-use Rattle.register.specs.Events.{CanCut, CutLeaves, Clears}
+use Rattle.register.specs.Events.{CanCut, CutLeaves, CutBounds}
 use Rattle.register.proofs.Rules.{of-length, of-withdrawn, of-unissued, of-live, Says, wrong, withdrawn, unissued, live, says}
 
 -- ---- one test, computed at each byte
@@ -68,7 +67,7 @@ over withdraw = 0xA5
 pub accepts : (w : Write) (register : List ℕ) (x : ℕ) → isAccepted (answerOf w register x) ≡ true → (length register ≡ 256) × (getD register x 0 ≡ over w)
 accepts w register x t = go w t (says register x)
   where
-    refuses : (w : Write) {a : Answer} → isAccepted (answerOf w register x) ≡ true → answerOf w register x ≡ a → isAccepted a ≡ false → ⊥
+    refuses : (w : Write) {a : WriteAnswer} → isAccepted (answerOf w register x) ≡ true → answerOf w register x ≡ a → isAccepted a ≡ false → ⊥
     refuses w t e f = false≢true (sym f ∙ sym (ap isAccepted e) ∙ t)
 
     go : (w : Write) → isAccepted (answerOf w register x) ≡ true → Says register x → (length register ≡ 256) × (getD register x 0 ≡ over w)
@@ -100,7 +99,7 @@ bytes-of withdraw = cuts-find .withdraw-bytes
 unissued-byte : (b : ℕ) → statusOf b ≡ Status.Unissued → b ≡ 0xFF
 unissued-byte b s = go (eqb b 0xFF) (eqb b 0xA5) refl s
   where
-    go : (t u : Bool) → eqb b 0xFF ≡ t → choose t Status.Unissued (choose u Status.Live Status.Withdrawn) ≡ Status.Unissued → b ≡ 0xFF
+    go : (t u : Bool) → eqb b 0xFF ≡ t → cond t Status.Unissued (cond u Status.Live Status.Withdrawn) ≡ Status.Unissued → b ≡ 0xFF
     go true u e s = eqb-true b 0xFF e
     go false true e s = let z : _≡_ {A = ℕ} 0 1 = cc in absurd (omega arith)
     go false false e s = let z : _≡_ {A = ℕ} 0 1 = cc in absurd (omega arith)
@@ -125,7 +124,7 @@ only-clears : (w : Write) → (over w < 256) × (byteOf w < 256) × (mayBeLeft (
 only-clears issue = (lit< tt, lit< tt, refl, refl)
 only-clears withdraw = (lit< tt, lit< tt, refl, refl)
 
-pub clears : (register : List ℕ) (w : Write) (x : ℕ) → isAccepted (answerOf w register x) ≡ true → Clears register w x
+pub clears : (register : List ℕ) (w : Write) (x : ℕ) → isAccepted (answerOf w register x) ≡ true → CutBounds register w x
 clears register w x t =
     let (old, new, begins, ends) = only-clears w in
     let e = sym (accepts w register x t .1) in

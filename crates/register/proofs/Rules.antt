@@ -1,5 +1,5 @@
 -- Issue and withdraw, as specs/Register.antt computes them, keep document 01's rules, and nothing else does.
--- Assumes nothing.
+use mathlib.Core.Bool.{cond}
 use mathlib.Core.Path.{_≡_, refl, sym, _∙_, ap, subst}
 use mathlib.Core.Logic.{_≢_, ⊎-elim}
 use mathlib.Core.List.{List, [], _∷_}
@@ -12,22 +12,22 @@ use denote.Enum.Declared.{tagOf}
 use lib.ListN.{length, getD, set}
 use Rattle.register.specs.declared.answers.Status.{Status}
 use Rattle.register.specs.declared.answers.Status.the-variants as Status
-use Rattle.register.specs.declared.answers.Answer.{Answer}
-use Rattle.register.specs.declared.answers.Answer.the-variants as Answer
-use Rattle.register.specs.Register.{choose, statusIn, numberOf, Write, issue, withdraw, byStatus, byteOf, answerOf, isAccepted, leavesOf}
-use Rattle.register.specs.Rules.{Unissued, Live, Withdrawn, Issues, Withdraws}
-use Rattle.register.proofs.answers.Answer.{the-type}
+use Rattle.register.specs.declared.answers.WriteAnswer.{WriteAnswer}
+use Rattle.register.specs.declared.answers.WriteAnswer.the-variants as WriteAnswer
+use Rattle.register.specs.Register.{statusIn, numberOf, Write, issue, withdraw, byStatus, byteOf, answerOf, isAccepted, leavesOf}
+use Rattle.register.specs.Rules.{Unissued, Live, Withdrawn, IssueEffect, WithdrawEffect}
+use Rattle.register.proofs.answers.WriteAnswer.{the-type}
 
 -- The register that a call leaves where it answers a.
-abbrev pub left : Write → List ℕ → ℕ → Answer → List ℕ
-left w register x a = choose (isAccepted a) (set register x (byteOf w)) register
+abbrev pub left : Write → List ℕ → ℕ → WriteAnswer → List ℕ
+left w register x a = cond (isAccepted a) (set register x (byteOf w)) register
 
 -- What a call gives back where it answers a.
-abbrev Gives : Write → List ℕ → ℕ → Answer → Type 0
+abbrev Gives : Write → List ℕ → ℕ → WriteAnswer → Type 0
 Gives w register x a = (numberOf (answerOf w register x) ≡ numberOf a) × (leavesOf w register x ≡ left w register x a)
 
 module _ (w : Write) (register : List ℕ) (x : ℕ) where
-  pub of-length : length register ≢ 256 → answerOf w register x ≡ Answer.Length
+  pub of-length : length register ≢ 256 → answerOf w register x ≡ WriteAnswer.Length
   of-length h = simp (ne-eqb (length register) 256 h)
 
   pub of-status : length register ≡ 256 → {s : Status} → statusIn register x ≡ s → answerOf w register x ≡ byStatus w s
@@ -42,13 +42,13 @@ module _ (w : Write) (register : List ℕ) (x : ℕ) where
   pub of-withdrawn : Withdrawn register x → answerOf w register x ≡ byStatus w Status.Withdrawn
   of-withdrawn h = of-status (h .size) (simp (ne-eqb (getD register x 0) 0xFF (h .not-unissued), ne-eqb (getD register x 0) 0xA5 (h .not-live)))
 
-  gives : {a : Answer} → answerOf w register x ≡ a → Gives w register x a
+  gives : {a : WriteAnswer} → answerOf w register x ≡ a → Gives w register x a
   gives e = (ap numberOf e, ap (left w register x) e)
 
 -- The rule of each call.
 abbrev pub Rule : Write → List ℕ → ℕ → ℕ → List ℕ → Type 0
-Rule issue = Issues
-Rule withdraw = Withdraws
+Rule issue = IssueEffect
+Rule withdraw = WithdrawEffect
 
 pub rules : (w : Write) (register : List ℕ) (x : ℕ) → Rule w register x (numberOf (answerOf w register x)) (leavesOf w register x)
 rules issue register x =
@@ -69,27 +69,27 @@ rules withdraw register x =
 -- ---- the contracts: one law for issue and withdraw
 
 -- What is said of an answer and of the register that is left with it.
-abbrev pub Meets : Write → List ℕ → ℕ → Answer → List ℕ → Type 0
+abbrev pub Meets : Write → List ℕ → ℕ → WriteAnswer → List ℕ → Type 0
 Meets w register x a l = (a ≡ answerOf w register x) × ((l ≡ leavesOf w register x) × Rule w register x (numberOf a) l)
 
 module _ (w : Write) (register : List ℕ) (x : ℕ) where
-  pub meets : {a : Answer} {l : List ℕ} → a ≡ answerOf w register x → l ≡ left w register x a → Meets w register x a l
+  pub meets : {a : WriteAnswer} {l : List ℕ} → a ≡ answerOf w register x → l ≡ left w register x a → Meets w register x a l
   meets {a} e k =
       let leaves = k ∙ ap (left w register x) e in
-      let rule = subst (λ (b : Answer). Rule w register x (numberOf b) (leavesOf w register x)) (sym e) (rules w register x) in
+      let rule = subst (λ (b : WriteAnswer). Rule w register x (numberOf b) (leavesOf w register x)) (sym e) (rules w register x) in
       (e, (leaves, subst (Rule w register x (numberOf a)) (sym leaves) rule))
 
   -- An answer other than Accepted leaves the register.
-  pub kept : (a : Answer) → OneOf (1 ∷ 2 ∷ 3 ∷ 4 ∷ []) (tagOf the-type a) → register ≡ left w register x a
-  kept Answer.Accepted t = absurd (⊎-elim (λ (z : _≡_ {A = ℕ} 0 1). omega arith)
+  pub kept : (a : WriteAnswer) → OneOf (1 ∷ 2 ∷ 3 ∷ 4 ∷ []) (tagOf the-type a) → register ≡ left w register x a
+  kept WriteAnswer.Accepted t = absurd (⊎-elim (λ (z : _≡_ {A = ℕ} 0 1). omega arith)
       (⊎-elim (λ (z : _≡_ {A = ℕ} 0 2). omega arith) (⊎-elim (λ (z : _≡_ {A = ℕ} 0 3). omega arith) (λ (z : _≡_ {A = ℕ} 0 4). omega arith))) t)
-  kept Answer.Length t = refl
-  kept Answer.Withdrawn t = refl
-  kept Answer.Unissued t = refl
-  kept Answer.Live t = refl
+  kept WriteAnswer.Length t = refl
+  kept WriteAnswer.Withdrawn t = refl
+  kept WriteAnswer.Unissued t = refl
+  kept WriteAnswer.Live t = refl
 
   -- Every answer but 2 tells the length.
-  pub of-size : {a : Answer} → a ≡ answerOf w register x → numberOf a ≢ 2 → length register ≡ 256
+  pub of-size : {a : WriteAnswer} → a ≡ answerOf w register x → numberOf a ≢ 2 → length register ≡ 256
   of-size e n = go (ℕ-discrete (length register) 256)
     where
       go : Dec (length register ≡ 256) → length register ≡ 256

@@ -21,14 +21,14 @@ pub record Withdrawn (register : List ℕ) (x : ℕ) : Type 0 where
   pub not-live : getD register x 0 ≢ 0xA5
 
 -- 'Refusals in order': issue checks 2, 9 and 17, and writes A5 over FF. `number` is what it answers, `left` the register that it leaves.
-pub record Issues (register : List ℕ) (x number : ℕ) (left : List ℕ) : Type 0 where
+pub record IssueEffect (register : List ℕ) (x number : ℕ) (left : List ℕ) : Type 0 where
   pub wrong-length : length register ≢ 256 → (number ≡ 2) × (left ≡ register)
   pub withdrawn : Withdrawn register x → (number ≡ 9) × (left ≡ register)
   pub live : Live register x → (number ≡ 17) × (left ≡ register)
   pub unissued : Unissued register x → (number ≡ 0) × (left ≡ set register x 0xA5)
 
 -- 'Refusals in order': withdraw checks 2, 9 and 10, and writes 00 over A5.
-pub record Withdraws (register : List ℕ) (x number : ℕ) (left : List ℕ) : Type 0 where
+pub record WithdrawEffect (register : List ℕ) (x number : ℕ) (left : List ℕ) : Type 0 where
   pub wrong-length : length register ≢ 256 → (number ≡ 2) × (left ≡ register)
   pub withdrawn : Withdrawn register x → (number ≡ 9) × (left ≡ register)
   pub unissued : Unissued register x → (number ≡ 10) × (left ≡ register)

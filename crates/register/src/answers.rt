@@ -7,7 +7,7 @@ pub enum Status {
 }
 
 // A refusal's comment has its number and word in document 01, as `numberOf` of specs/Register.antt gives it.
-pub enum Answer {
+pub enum WriteAnswer {
     // 0: the call was accepted and has written its byte.
     Accepted,
     // 2, length: the register is not 256 bytes long.

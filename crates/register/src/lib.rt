@@ -1,8 +1,8 @@
 // The register of sheet numbers: 256 lent bytes, one a number. FF is unissued, A5 live, all else withdrawn.
 pub mod answers;
 
-pub use answers::Answer;
 pub use answers::Status;
+pub use answers::WriteAnswer;
 ghost use mathlib.Core.Path.{_≡_};
 ghost use Prim.Native.Nat.{_<_};
 ghost use lib.ListN.{length, set};
@@ -15,7 +15,7 @@ ghost use Rattle.register.specs.Register.{
   withdrawAnswer,
   withdrawLeaves,
 };
-ghost use Rattle.register.specs.Rules.{Issues, Withdraws};
+ghost use Rattle.register.specs.Rules.{IssueEffect, WithdrawEffect};
 ghost use Rattle.register.specs.Cut.{mayBeLeft};
 ghost use Rattle.register.specs.Events.{Lasts};
 
@@ -27,6 +27,19 @@ pub const UNISSUED: u8 = 0xFF;
 pub const LIVE: u8 = 0xA5;
 
 pub const CLEARED: u8 = 0x00;
+
+// The number of an answer in document 01; an accepted call has 0.
+pub fn number_of(answer: WriteAnswer) -> u8
+    ensures { λ r. ⌜ r ≡ numberOf answer ⌝ }
+{
+    match answer {
+        WriteAnswer::Accepted => 0,
+        WriteAnswer::Length => 2,
+        WriteAnswer::Withdrawn => 9,
+        WriteAnswer::Unissued => 10,
+        WriteAnswer::Live => 17,
+    }
+}
 
 // What a register byte says.
 fn status_of(byte: u8) -> Status
@@ -55,32 +68,32 @@ pub fn status(register: &[u8], number: u8) -> Status
 }
 
 // What issue answers. A judgement is lent the register only to read.
-fn judge_issue(register: &[u8], number: u8) -> Answer
+fn judge_issue(register: &[u8], number: u8) -> WriteAnswer
     ensures { λ r. ⌜ r ≡ issueAnswer (now (register .entry)) number ⌝ }
 {
     if register.len() != SIZE {
-        return Answer::Length;
+        return WriteAnswer::Length;
     }
     let found = status(register, number);
     match found {
-        Status::Withdrawn => Answer::Withdrawn,
-        Status::Live => Answer::Live,
-        Status::Unissued => Answer::Accepted,
+        Status::Withdrawn => WriteAnswer::Withdrawn,
+        Status::Live => WriteAnswer::Live,
+        Status::Unissued => WriteAnswer::Accepted,
     }
 }
 
 // What withdraw answers.
-fn judge_withdraw(register: &[u8], number: u8) -> Answer
+fn judge_withdraw(register: &[u8], number: u8) -> WriteAnswer
     ensures { λ r. ⌜ r ≡ withdrawAnswer (now (register .entry)) number ⌝ }
 {
     if register.len() != SIZE {
-        return Answer::Length;
+        return WriteAnswer::Length;
     }
     let found = status(register, number);
     match found {
-        Status::Withdrawn => Answer::Withdrawn,
-        Status::Unissued => Answer::Unissued,
-        Status::Live => Answer::Accepted,
+        Status::Withdrawn => WriteAnswer::Withdrawn,
+        Status::Unissued => WriteAnswer::Unissued,
+        Status::Live => WriteAnswer::Accepted,
     }
 }
 
@@ -93,29 +106,29 @@ fn store(register: &mut [u8], number: u8, byte: u8)
 }
 
 // Writes A5 over FF. Only an accepted call stores, so that power can cut no write of a refused one.
-pub fn issue(register: &mut [u8], number: u8) -> Answer
+pub fn issue(register: &mut [u8], number: u8) -> WriteAnswer
     ensures answer { λ r. ⌜ r ≡ issueAnswer (now (register .entry)) number ⌝ }
     ensures leaves { λ r. ⌜ now (register .exit) ≡ issueLeaves (now (register .entry)) number ⌝ }
-    ensures rule { λ r. ⌜ Issues (now (register .entry)) number (numberOf r) (now (register .exit)) ⌝ }
+    ensures rule { λ r. ⌜ IssueEffect (now (register .entry)) number (numberOf r) (now (register .exit)) ⌝ }
 {
     let answer = judge_issue(register, number);
     match answer {
-        Answer::Accepted => store(register, number, LIVE),
+        WriteAnswer::Accepted => store(register, number, LIVE),
         _ => {}
     }
     answer
 }
 
 // Writes 00 over A5, and stores as issue does.
-pub fn withdraw(register: &mut [u8], number: u8) -> Answer
+pub fn withdraw(register: &mut [u8], number: u8) -> WriteAnswer
     ensures answer { λ r. ⌜ r ≡ withdrawAnswer (now (register .entry)) number ⌝ }
     ensures leaves { λ r. ⌜ now (register .exit) ≡ withdrawLeaves (now (register .entry)) number ⌝ }
-    ensures rule { λ r. ⌜ Withdraws (now (register .entry)) number (numberOf r) (now (register .exit)) ⌝ }
+    ensures rule { λ r. ⌜ WithdrawEffect (now (register .entry)) number (numberOf r) (now (register .exit)) ⌝ }
     ensures lasts { λ r. ⌜ (numberOf r ≡ 0 → Lasts (now (register .exit)) number) ⌝ }
 {
     let answer = judge_withdraw(register, number);
     match answer {
-        Answer::Accepted => store(register, number, CLEARED),
+        WriteAnswer::Accepted => store(register, number, CLEARED),
         _ => {}
     }
     answer

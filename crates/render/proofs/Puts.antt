@@ -1,7 +1,7 @@
--- What was written, with how long it can be. Assumes nothing.
-use Prim.Native.Nat.{ℕ, _+_, _*_, _^_, _≤_, _<_}
-use mathlib.Core.Path.{_≡_, refl, sym, ap, _∙_}
-use mathlib.Core.List.{List, [], _∷_, _++_, append-nil}
+-- What was written, with how long it can be.
+use Prim.Native.Nat.{ℕ, _+_, _^_, _≤_, _<_}
+use mathlib.Core.Path.{_≡_, sym, ap, _∙_}
+use mathlib.Core.List.{List, [], _++_, append-nil}
 use native.Mathlib.Omega.{arith}
 use lib.Dec.{lit≤, lit<}
 use lib.IntN.{ℤ, pos}
@@ -11,12 +11,12 @@ use mir.Syntax.{w64}
 use mir.Val.{SFits}
 use Rattle.lines.specs.Text.{decimal, field, Wrote}
 use Rattle.lines.proofs.Laws.{wrote-text, wrote-both, wrote-long, length-decimal, length-field-pos, length-field}
-use Rattle.lines.proofs.Negated.{read, read-is}
+use Rattle.cash.proofs.Negated.{read, read-is}
 use Rattle.commands.specs.declared.Order.{Order}
 use Rattle.commands.specs.declared.Order.the-variants.{Issue, Withdraw, Open, Back, Value, Delta, Forward}
-use Rattle.desk.specs.declared.Answer.{Answer}
-use Rattle.desk.specs.declared.Answer.the-variants.{Refused, Done, Position, Worth, Ratio, Probability}
-use Rattle.desk.specs.Held.{answerSaid}
+use Rattle.answers.specs.declared.OrderAnswer.{OrderAnswer}
+use Rattle.answers.specs.declared.OrderAnswer.the-variants.{Refused, Done, Position, Worth, Ratio, Probability}
+use Rattle.answers.specs.OrderAnswers.{answerSaid}
 use Rattle.render.specs.Lines.{word, width}
 
 -- text of at most so many bytes was written
@@ -73,7 +73,7 @@ word-long (Delta j k) = lit≤ tt
 word-long (Forward i k) = lit≤ tt
 
 -- an answer has three values at most
-pub width-most : (a : Answer) → width (answerSaid a) ≤ 66
+pub width-most : (a : OrderAnswer) → width (answerSaid a) ≤ 66
 width-most (Refused n) = lit≤ tt
 width-most Done = lit≤ tt
 width-most (Position i) = lit≤ tt

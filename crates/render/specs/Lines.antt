@@ -28,20 +28,20 @@ fields [] = []
 fields (z ∷ zs) = field z ++ fields zs
 
 -- The refusal, or 0 and the answer.
-unfoldable pub told : Said → List ℕ
-told s = decimal (s .number) ++ fields (s .values)
+unfoldable pub answerText : Said → List ℕ
+answerText s = decimal (s .number) ++ fields (s .values)
 
 -- A word, what stands behind it, and byte 0A.
 unfoldable pub line : List ℕ → List ℕ → List ℕ
 line w f = w ++ (f ++ (0x0A ∷ []))
 
 unfoldable pub orderLine : Order → Said → List ℕ
-orderLine o s = line (word o) (told s)
+orderLine o s = line (word o) (answerText s)
 
 -- The refusal and an offset.
 unfoldable pub deckLine : ℕ → ℕ → List ℕ
 deckLine number at = line deckWord (decimal number ++ field (pos at))
 
--- The most bytes of what is told, by the width of the code's numbers: a byte, and 64 bits each.
+-- The most bytes of that text, by the width of the code's numbers: a byte, and 64 bits each.
 abbrev pub width : Said → ℕ
 width s = 3 + 21 * length (s .values)

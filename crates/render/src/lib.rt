@@ -1,12 +1,11 @@
 // The lines of a listing, written into a lent buffer from a place on. Each function answers the place after what it wrote.
-ghost use mathlib.Core.Path.{_≡_};
 ghost use Prim.Native.Nat.{_+_, _≤_};
 ghost use lib.ListN.{length};
 ghost use Rattle.lines.specs.Text.{Wrote};
-ghost use Rattle.desk.specs.Held.{answerSaid};
-ghost use Rattle.render.specs.Lines.{word, told, orderLine, deckLine, width};
+ghost use Rattle.answers.specs.OrderAnswers.{answerSaid};
+ghost use Rattle.render.specs.Lines.{word, answerText, orderLine, deckLine, width};
+use answers::OrderAnswer;
 use commands::Order;
-use desk::Answer;
 
 // The word of an order, with its space.
 fn put_word(out: &mut [u8], at: usize, order: Order) -> usize
@@ -31,33 +30,33 @@ fn put_word(out: &mut [u8], at: usize, order: Order) -> usize
 }
 
 // A refusal, or 0 and the answer.
-fn put_answer(out: &mut [u8], at: usize, answer: Answer) -> usize
+fn put_answer(out: &mut [u8], at: usize, answer: OrderAnswer) -> usize
     requires { ⌜ at + 66 ≤ length (now out) ⌝ }
-    ensures writes { λ r. ⌜ Wrote (now (out .entry)) at (told (answerSaid answer)) (now (out .exit)) r ⌝ }
+    ensures writes { λ r. ⌜ Wrote (now (out .entry)) at (answerText (answerSaid answer)) (now (out .exit)) r ⌝ }
     ensures short { λ r. ⌜ r ≤ at + width (answerSaid answer) ⌝ }
 {
     match answer {
-        Answer::Refused(number) => {
+        OrderAnswer::Refused(number) => {
             return lines::put_decimal(out, at, number as u64);
         }
-        Answer::Done => {
+        OrderAnswer::Done => {
             return lines::put_decimal(out, at, 0);
         }
-        Answer::Position(position) => {
+        OrderAnswer::Position(position) => {
             let b = lines::put_decimal(out, at, 0);
             return lines::put_count(out, b, position as u64);
         }
-        Answer::Worth(d, a, w) => {
+        OrderAnswer::Worth(d, a, w) => {
             let b = lines::put_decimal(out, at, 0);
             let c = lines::put_count(out, b, d);
             let e = lines::put_count(out, c, a);
             return lines::put_field(out, e, w);
         }
-        Answer::Ratio(ratio) => {
+        OrderAnswer::Ratio(ratio) => {
             let b = lines::put_decimal(out, at, 0);
             return lines::put_field(out, b, ratio);
         }
-        Answer::Probability(q) => {
+        OrderAnswer::Probability(q) => {
             let b = lines::put_decimal(out, at, 0);
             return lines::put_count(out, b, q);
         }
@@ -65,7 +64,7 @@ fn put_answer(out: &mut [u8], at: usize, answer: Answer) -> usize
 }
 
 // The line of an order.
-pub fn put_line(out: &mut [u8], at: usize, order: Order, answer: Answer) -> usize
+pub fn put_line(out: &mut [u8], at: usize, order: Order, answer: OrderAnswer) -> usize
     requires { ⌜ at + 76 ≤ length (now out) ⌝ }
     ensures writes { λ r. ⌜ Wrote (now (out .entry)) at (orderLine order (answerSaid answer)) (now (out .exit)) r ⌝ }
     ensures short { λ r. ⌜ r ≤ at + 10 + width (answerSaid answer) ⌝ }

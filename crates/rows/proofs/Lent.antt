@@ -1,4 +1,4 @@
--- The front of an array, lent. Assumes nothing.
+-- The front of an array, lent.
 use Prim.Native.Nat.{ℕ, zero, suc, _+_, _*_, _≤_}
 use mathlib.Core.Path.{_≡_, refl, sym, _∙_}
 use mathlib.Core.List.{List}
@@ -15,9 +15,12 @@ enough r n a b = mul-le-mul {n₁ = r + 1} {m₁ = n + 1} {n₂ = 9} {m₂ = 126
 pub front : (k : ℕ) (l : List ℕ) (m : ℕ) → length l ≡ m → k ≤ m → k ≡ length (take k l)
 front k l m e h = sym (length-take-le k l (omega arith))
 
--- as long as the rows of a sheet
+-- the rows of a sheet, as the code counts them
+pub row-size : (r n : ℕ) → (r + 1) * (n + 1) ≡ suc r * suc n
+row-size r n = λ t. add-one r t * add-one n t
+
 pub front-size : (r n : ℕ) (l : List ℕ) (m : ℕ) → length l ≡ m → (r + 1) * (n + 1) ≤ m → length (take ((r + 1) * (n + 1)) l) ≡ suc r * suc n
-front-size r n l m e h = sym (front _ l m e h) ∙ (λ t. add-one r t * add-one n t)
+front-size r n l m e h = sym (front _ l m e h) ∙ row-size r n
 
 -- zeros at every place, and past the end
 pub zeros-front : (k m i : ℕ) → _≡_ {A = ℕ} (getD (take k (replicate m 0)) i 0) 0

@@ -1,4 +1,4 @@
--- Laws of one node's step back. Assumes nothing.
+-- Laws of one node's step back.
 use Prim.Native.Nat.{ℕ, _+_, _-_, _*_, _≤_}
 use mathlib.Core.Path.{_≡_}
 use native.Mathlib.Nat.{mul-le-mul, mul-le-mul-left, add-mul, add-sub-of-le, zero-mul, mul-zero}

@@ -1,4 +1,4 @@
--- One tranche's part of the rows, lent and come back. Assumes nothing.
+-- One tranche's part of the rows, lent and come back.
 use Prim.Native.Nat.{ℕ, _+_, _*_, _≤_, _<_}
 use mathlib.Core.Path.{_≡_, ap, sym, _∙_}
 use mathlib.Core.List.{List}

@@ -1,4 +1,4 @@
--- Laws of rows walked back: lengths, nodes, and two walks as one. Assumes nothing.
+-- Laws of rows walked back: lengths, nodes, and two walks as one.
 use Prim.Native.Nat.{ℕ, zero, suc, _+_, _-_, _*_, _≤_, _<_}
 use mathlib.Core.Path.{_≡_, refl, ap, sym, _∙_}
 use mathlib.Core.List.{List}
@@ -9,25 +9,25 @@ use lib.ListN.{length, getD, List·getD-eq-default}
 use borrow.Author.Tests.{lt-ltb, le-ltb}
 use Rattle.tree.specs.Paths.{survive, default}
 use Rattle.tree.specs.Backward.{rollNode, backFrom, back, Leg, legValue}
-use Rattle.tree.specs.Sheet.{Sheet, hazardOf, discountOf, treeOf, defaultOf, premiumOf, D, A}
+use Rattle.sheet.specs.Terms.{Terms}
+use Rattle.tree.specs.Sheet.{hazardOf, discountOf, treeOf}
 use Rattle.rows.specs.Tables.{entry}
-use Rattle.rows.specs.Rows.{nodeIn, rolled, rolledBack}
-use Rattle.rows.specs.Limits.{size}
+use Rattle.rows.specs.Rows.{nodeIn, rowLength, rolled, rolledBack}
 use Rattle.rows.proofs.Tables.{length-row, node-row}
 use Rattle.rows.proofs.Nodes.{node-last}
 
 -- ---- hazards
 
-pub hazard-before : (x : Sheet) (s k : ℕ) → k < x .names → hazardOf x s k ≡ getD (x .hazards) k 0
+pub hazard-before : (x : Terms) (s k : ℕ) → k < x .names → hazardOf x s k ≡ getD (x .hazards) k 0
 unfolding hazardOf
 hazard-before x s k h = rw (lt-ltb k (x .names) h)
 
-pub hazard-last : (x : Sheet) (s k : ℕ) → x .names ≤ k → hazardOf x s k ≡ 0
+pub hazard-last : (x : Terms) (s k : ℕ) → x .names ≤ k → hazardOf x s k ≡ 0
 unfolding hazardOf
 hazard-last x s k h = rw (le-ltb k (x .names) h)
 
 -- with a hazard for each name, past the list there is none either
-pub hazard-is : (x : Sheet) → length (x .hazards) ≡ x .names → (s k : ℕ) → getD (x .hazards) k 0 ≡ hazardOf x s k
+pub hazard-is : (x : Terms) → length (x .hazards) ≡ x .names → (s k : ℕ) → getD (x .hazards) k 0 ≡ hazardOf x s k
 hazard-is x long s k = go (decLt k (x .names))
   where
     go : Dec (k < x .names) → getD (x .hazards) k 0 ≡ hazardOf x s k
@@ -35,7 +35,7 @@ hazard-is x long s k = go (decLt k (x .names))
     go (no h) = List·getD-eq-default (x .hazards) 0 (omega arith) ∙ sym (hazard-last x s k (omega arith))
 
 -- a node by what follows it: the figure after a default counts below the last count only
-pub node-same : (x : Sheet) (s k v d d' u u' : ℕ) → (k < x .names → d ≡ d') → u ≡ u' → rollNode (hazardOf x s k) v d u ≡ rollNode (hazardOf x s k) v d' u'
+pub node-same : (x : Terms) (s k v d d' u u' : ℕ) → (k < x .names → d ≡ d') → u ≡ u' → rollNode (hazardOf x s k) v d u ≡ rollNode (hazardOf x s k) v d' u'
 node-same x s k v d d' u u' e f = go (decLt k (x .names))
   where
     go : Dec (k < x .names) → rollNode (hazardOf x s k) v d u ≡ rollNode (hazardOf x s k) v d' u'
@@ -44,16 +44,11 @@ node-same x s k v d d' u u' e f = go (decLt k (x .names))
 
 -- ---- lengths and entries
 
-pub length-rolled : (x : Sheet) (leg : ℕ → Leg) (i : ℕ) (row : List ℕ) → length (rolled x leg i row) ≡ size x
+pub length-rolled : (x : Terms) (leg : ℕ → Leg) (i : ℕ) (row : List ℕ) → length (rolled x leg i row) ≡ rowLength x
 unfolding rolled
 length-rolled x leg i row = length-row x _
 
-pub length-rolled-back : (x : Sheet) (leg : ℕ → Leg) (i c : ℕ) (row : List ℕ) → length row ≡ size x → length (rolledBack x leg i c row) ≡ size x
-unfolding rolledBack
-length-rolled-back x leg i zero row e = e
-length-rolled-back x leg i (suc c) row e = length-rolled x leg _ _
-
-pub rolled-entry : (x : Sheet) (leg : ℕ → Leg) (i : ℕ) (row : List ℕ) (j k : ℕ) → j ≤ x .tranches → k ≤ x .names →
+pub rolled-entry : (x : Terms) (leg : ℕ → Leg) (i : ℕ) (row : List ℕ) (j k : ℕ) → j ≤ x .tranches → k ≤ x .names →
     nodeIn x (rolled x leg i row) j k
     ≡ rollNode (hazardOf x (suc i) k) (discountOf x (suc i))
     (nodeIn x row j (suc k) + leg j .rounded (suc i) k default)
@@ -63,7 +58,7 @@ rolled-entry x leg i row j k p q = node-row x _ j k p q
 
 -- ---- each node is the rounded rule's value, from the row that the walk started on
 
-next-node : (x : Sheet) (g : Leg) (q : ℕ → ℕ) (c s k : ℕ) (row : ℕ → ℕ) (i : ℕ) → suc s ≡ i
+next-node : (x : Terms) (g : Leg) (q : ℕ → ℕ) (c s k : ℕ) (row : ℕ → ℕ) (i : ℕ) → suc s ≡ i
     → (k < x .names → row (suc k) ≡ backFrom (treeOf x) (g .rounded) q c i (suc k)) → row k ≡ backFrom (treeOf x) (g .rounded) q c i k
     → rollNode (hazardOf x (suc s) k) (discountOf x (suc s)) (row (suc k) + g .rounded (suc s) k default) (row k + g .rounded (suc s) k survive)
     ≡ backFrom (treeOf x) (g .rounded) q (suc c) s k
@@ -73,7 +68,7 @@ next-node x g q c s k row i e d u =
     (λ h. ap (λ y. y + g .rounded (suc s) k default) (d h ∙ ap (λ (n : ℕ). backFrom (treeOf x) (g .rounded) q c n (suc k)) (sym e)))
     (ap (λ y. y + g .rounded (suc s) k survive) (u ∙ ap (λ (n : ℕ). backFrom (treeOf x) (g .rounded) q c n k) (sym e)))
 
-pub rolled-node : (x : Sheet) (leg : ℕ → Leg) (i : ℕ) (row : List ℕ) (j : ℕ) → j ≤ x .tranches → (c k : ℕ) → c ≤ i → k ≤ x .names →
+pub rolled-node : (x : Terms) (leg : ℕ → Leg) (i : ℕ) (row : List ℕ) (j : ℕ) → j ≤ x .tranches → (c k : ℕ) → c ≤ i → k ≤ x .names →
     nodeIn x (rolledBack x leg i c row) j k ≡ backFrom (treeOf x) (leg j .rounded) (nodeIn x row j) c (i - c) k
 unfolding rolledBack backFrom
 rolled-node x leg i row j p zero k h q = refl
@@ -85,29 +80,20 @@ rolled-node x leg i row j p (suc c) k h q =
 
 -- ---- from rows of zeros
 
-pub zeros-node : (x : Sheet) (row : List ℕ) → ((i : ℕ) → getD row i 0 ≡ 0) → (j : ℕ) → nodeIn x row j ≡ (λ k. 0)
+pub zeros-node : (x : Terms) (row : List ℕ) → ((i : ℕ) → getD row i 0 ≡ 0) → (j : ℕ) → nodeIn x row j ≡ (λ k. 0)
 unfolding nodeIn entry
 zeros-node x row z j = λ t k. z (j * suc (x .names) + k) t
 
-pub rolled-leg : (x : Sheet) (leg : ℕ → Leg) (row : List ℕ) → ((i : ℕ) → getD row i 0 ≡ 0) → (i j h k : ℕ) → h ≤ i → j ≤ x .tranches → k ≤ x .names →
+pub rolled-leg : (x : Terms) (leg : ℕ → Leg) (row : List ℕ) → ((i : ℕ) → getD row i 0 ≡ 0) → (i j h k : ℕ) → h ≤ i → j ≤ x .tranches → k ≤ x .names →
     nodeIn x (rolledBack x leg i h row) j k ≡ legValue (treeOf x) (leg j) h (i - h) k
 unfolding legValue back
 rolled-leg x leg row z i j h k l p q =
     rolled-node x leg i row j p h k l q
     ∙ ap (λ (f : ℕ → ℕ). backFrom (treeOf x) (leg j .rounded) f h (i - h) k) (zeros-node x row z j)
 
-module _ (x : Sheet) (row : List ℕ) (z : (i : ℕ) → getD row i 0 ≡ 0) (j h k : ℕ) (l : h ≤ x .steps) (p : j ≤ x .tranches) (q : k ≤ x .names) where
-  pub rolled-default : nodeIn x (rolledBack x (defaultOf x) (x .steps) h row) j k ≡ D x j h (x .steps - h) k
-  unfolding D
-  rolled-default = rolled-leg x (defaultOf x) row z (x .steps) j h k l p q
-
-  pub rolled-premium : nodeIn x (rolledBack x (premiumOf x) (x .steps) h row) j k ≡ A x j h (x .steps - h) k
-  unfolding A
-  rolled-premium = rolled-leg x (premiumOf x) row z (x .steps) j h k l p q
-
 -- ---- b steps and then c steps are b + c steps
 
-pub rolled-join : (x : Sheet) (leg : ℕ → Leg) (i b c : ℕ) (row : List ℕ) → rolledBack x leg (i - b) c (rolledBack x leg i b row) ≡ rolledBack x leg i (b + c) row
+pub rolled-join : (x : Terms) (leg : ℕ → Leg) (i b c : ℕ) (row : List ℕ) → rolledBack x leg (i - b) c (rolledBack x leg i b row) ≡ rolledBack x leg i (b + c) row
 unfolding rolledBack
 rolled-join x leg i b zero row = ap (λ (n : ℕ). rolledBack x leg i n row) (sym (add-zero b))
 rolled-join x leg i b (suc c) row =

@@ -1,4 +1,4 @@
--- One tranche's step back is the step back of all rows there. Assumes nothing.
+-- One tranche's step back is the step back of all rows there.
 use Prim.Native.Nat.{ℕ, suc, _+_, _<_}
 use mathlib.Core.Path.{_≡_, ap, sym, _∙_}
 use mathlib.Core.List.{List}

@@ -1,4 +1,4 @@
--- The accruals after a step. Assumes nothing.
+-- The accruals after a step.
 use Prim.Native.Nat.{ℕ, zero, suc, _+_, _-_, _≤_, _<_, min}
 use mathlib.Core.Path.{_≡_, ap, sym, _∙_}
 use mathlib.Core.List.{List, [], _∷_}
@@ -7,7 +7,7 @@ use native.Mathlib.Omega.{arith}
 use lib.ListN.{length, getD, drop, drop-of-length-le}
 use native.Mathlib.Decide.{decLt}
 use lib.Seq.{drop-cons}
-use Rattle.tree.specs.Sheet.{sumOf}
+use Rattle.sheet.specs.Terms.{sumOf}
 
 pub sum-drop-most : (i : ℕ) (l : List ℕ) → sumOf (drop i l) ≤ sumOf l
 unfolding sumOf

@@ -1,4 +1,4 @@
--- A list that is rewritten in place from the front: what is passed follows the rule f, what is to come is as it was. Assumes nothing.
+-- A list that is rewritten in place from the front: what is passed follows the rule f, what is to come is as it was.
 use Prim.Native.Nat.{ℕ, _+_, _-_, _≤_, _<_}
 use mathlib.Core.Path.{_≡_, refl, ap, sym, _∙_}
 use mathlib.Core.List.{List, _++_}

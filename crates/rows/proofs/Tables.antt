@@ -1,4 +1,4 @@
--- Laws of lists made by a rule, and of rows. Assumes nothing.
+-- Laws of lists made by a rule, and of rows.
 use Prim.Native.Nat.{ℕ, zero, suc, _+_, _*_, _/_, _%_, _≤_, _<_}
 use mathlib.Core.Path.{_≡_, refl, ap, sym, _∙_}
 use mathlib.Core.List.{List}
@@ -7,9 +7,9 @@ use native.Mathlib.Omega.{arith}
 use lib.ListN.{length, getD}
 use lib.Seq.{ext-getD}
 use lib.Arith.{digits-lt, digits-div, digits-mod}
-use Rattle.tree.specs.Sheet.{Sheet}
+use Rattle.sheet.specs.Terms.{Terms}
 use Rattle.rows.specs.Tables.{tab, entry, grid}
-use Rattle.rows.specs.Rows.{nodeIn, rowOf}
+use Rattle.rows.specs.Rows.{rowLength, nodeIn, rowOf}
 
 pub length-tab : (n : ℕ) (f : ℕ → ℕ) → length (tab n f) ≡ n
 unfolding tab
@@ -75,19 +75,19 @@ grid-cong r w f g z h = is-grid (grid r w f) r w g z (length-grid r w f) (λ j k
 
 -- ---- the rows of a sheet
 
-pub length-row : (x : Sheet) (f : ℕ → ℕ → ℕ) → length (rowOf x f) ≡ suc (x .tranches) * suc (x .names)
+pub length-row : (x : Terms) (f : ℕ → ℕ → ℕ) → length (rowOf x f) ≡ rowLength x
 unfolding rowOf
 length-row x f = length-grid _ _ f
 
-pub node-row : (x : Sheet) (f : ℕ → ℕ → ℕ) (j k : ℕ) → j ≤ x .tranches → k ≤ x .names → nodeIn x (rowOf x f) j k ≡ f j k
+pub node-row : (x : Terms) (f : ℕ → ℕ → ℕ) (j k : ℕ) → j ≤ x .tranches → k ≤ x .names → nodeIn x (rowOf x f) j k ≡ f j k
 unfolding rowOf nodeIn
 node-row x f j k p q = entry-grid _ _ f j k (omega arith) (omega arith)
 
-pub row-cong : (x : Sheet) (f g : ℕ → ℕ → ℕ) → ((j k : ℕ) → j ≤ x .tranches → k ≤ x .names → f j k ≡ g j k) → rowOf x f ≡ rowOf x g
+pub row-cong : (x : Terms) (f g : ℕ → ℕ → ℕ) → ((j k : ℕ) → j ≤ x .tranches → k ≤ x .names → f j k ≡ g j k) → rowOf x f ≡ rowOf x g
 unfolding rowOf
 row-cong x f g h = grid-cong _ _ f g (omega arith) (λ j k p q. h j k (omega arith) (omega arith))
 
 -- a row whose nodes follow a rule is the rule's row
-pub is-row : (x : Sheet) (l : List ℕ) (f : ℕ → ℕ → ℕ) → length l ≡ suc (x .tranches) * suc (x .names) → ((j k : ℕ) → j ≤ x .tranches → k ≤ x .names → nodeIn x l j k ≡ f j k) → l ≡ rowOf x f
+pub is-row : (x : Terms) (l : List ℕ) (f : ℕ → ℕ → ℕ) → length l ≡ rowLength x → ((j k : ℕ) → j ≤ x .tranches → k ≤ x .names → nodeIn x l j k ≡ f j k) → l ≡ rowOf x f
 unfolding rowOf nodeIn
 is-row x l f e h = is-grid l _ _ f (omega arith) e (λ j k p q. h j k (omega arith) (omega arith))

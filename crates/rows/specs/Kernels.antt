@@ -8,7 +8,8 @@ use lib.Dec.{ltb, eqb}
 use Rattle.cash.specs.Units.{B}
 use Rattle.cash.specs.Losses.{poolLoss, defaultPayment, premiumPayment}
 use Rattle.tree.specs.Backward.{rollNode}
-use Rattle.tree.specs.Sheet.{Sheet, lossOf}
+use Rattle.sheet.specs.Terms.{Terms}
+use Rattle.tree.specs.Sheet.{lossOf}
 use Rattle.rows.specs.Tables.{tab, entry, any}
 
 -- One count of a tranche's row one step back; hazards and default cash stand by count.
@@ -29,14 +30,14 @@ unfoldable pub poolLosses : ℕ → ℕ → List ℕ
 poolLosses names recovery = tab (suc names) (poolLoss names recovery)
 
 -- The points between which the pool's loss is tranche j's; the index has all of it.
-unfoldable pub lowerOf : Sheet → ℕ → ℕ
+unfoldable pub lowerOf : Terms → ℕ → ℕ
 lowerOf x j = cond (ltb j (x .tranches)) (getD (x .attachments) j 0) 0
 
-unfoldable pub upperOf : Sheet → ℕ → ℕ
+unfoldable pub upperOf : Terms → ℕ → ℕ
 upperOf x j = cond (ltb j (x .tranches)) (getD (x .attachments) (suc j) 0) (B - x .recovery)
 
 -- What a default from the count k takes from tranche j. None comes from the last count.
-unfoldable pub paymentOf : Sheet → ℕ → ℕ → ℕ
+unfoldable pub paymentOf : Terms → ℕ → ℕ → ℕ
 paymentOf x j k = cond (ltb k (x .names)) (defaultPayment (lossOf x j k) (lossOf x j (suc k))) 0
 
 -- Whether a premium date is among the c steps before step i. An accrual that is not 0 marks one. ('Sheet and units')

@@ -1,4 +1,4 @@
 pub mod Tables
 pub mod Rows
 pub mod Kernels
-pub mod Limits
+pub mod Rollable

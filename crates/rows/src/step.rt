@@ -8,7 +8,7 @@ ghost use Rattle.rows.specs.Tables.{tab, grid};
 ghost use Rattle.rows.specs.Kernels.{rolledAt, rolledIn, accruedAt, RowFits, RowsFit};
 
 // What a node is worth one step before a default leads to one figure and survival to another.
-pub fn roll_node(hazard: u64, discount: u64, defaulted: u64, survived: u64) -> u64
+fn roll_node(hazard: u64, discount: u64, defaulted: u64, survived: u64) -> u64
     requires { ⌜ (hazard ≤ B) × (discount ≤ B) × (defaulted ≤ 18 * B) × (survived ≤ 18 * B) ⌝ }
     ensures { λ r. ⌜ r ≡ rollNode hazard discount defaulted survived ⌝ }
 {
@@ -16,9 +16,10 @@ pub fn roll_node(hazard: u64, discount: u64, defaulted: u64, survived: u64) -> u
 }
 
 // One tranche's row one step back, in place from low counts: a count is read before the next one is written.
-pub fn roll(row: &mut [u64], hazards: &[u64], discount: u64, cash: &[u64])
+fn roll(row: &mut [u64], hazards: &[u64], discount: u64, cash: &[u64])
     requires { ⌜ RowFits (now row) (now hazards) discount (now cash) ⌝ }
-    ensures { λ _. ⌜ now (row .exit) ≡ tab (length (now (row .entry))) (rolledAt (now (hazards .entry)) discount (now (cash .entry)) (now (row .entry))) ⌝ }
+    ensures { λ _. ⌜ now (row .exit)
+        ≡ tab (length (now (row .entry))) (rolledAt (now (hazards .entry)) discount (now (cash .entry)) (now (row .entry))) ⌝ }
 {
     let names = hazards.len();
     let mut k = 0;
@@ -44,7 +45,8 @@ pub fn roll_all(
     rows: &mut [u64],
 )
     requires { ⌜ RowsFit (suc tranches) names (now rows) (now hazards) discount (now cash) ⌝ }
-    ensures { λ _. ⌜ now (rows .exit) ≡ grid (suc tranches) (suc names) (rolledIn (suc names) (now (hazards .entry)) discount (now (cash .entry)) (now (rows .entry))) ⌝ }
+    ensures { λ _. ⌜ now (rows .exit)
+        ≡ grid (suc tranches) (suc names) (rolledIn (suc names) (now (hazards .entry)) discount (now (cash .entry)) (now (rows .entry))) ⌝ }
 {
     let mut j = 0;
     let mut a = 0;

@@ -1,6 +1,3 @@
-pub mod Judged
-pub mod Firsts
-pub mod Meanings
+pub mod Parts
 pub mod Limits
-mod Lists
-mod Trials
+pub mod Placement

@@ -1,4 +1,5 @@
+pub mod Terms
 pub mod Brought
-pub mod Refusals
+pub mod Spans
 pub mod Limits
-pub mod Tests
+pub mod Placement

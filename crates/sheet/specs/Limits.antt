@@ -1,45 +1,48 @@
 -- What document 01 asks of a sheet, as plain propositions ('Sheet and units' and rows 1 to 8 of the table of refusals).
 use Prim.Native.Nat.{ℕ, suc, pred, _+_, _*_, _≤_, _<_}
 use mathlib.Core.Path.{_≡_}
-use mathlib.Core.List.{List}
 use lib.ListN.{length, getD}
 use Rattle.cash.specs.Units.{B}
-use Rattle.tree.specs.Sheet.{Sheet, sumOf}
+use Rattle.sheet.specs.Terms.{Terms, sumOf}
 use Rattle.sheet.specs.Brought.{Brought}
 
 -- 1: n, m and r
-pub record PoolInside (x : Sheet) : Type 0 where
+pub record PoolInside (x : Terms) : Type 0 where
   pub names : (1 ≤ x .names) × (x .names ≤ 125)
   pub steps : (1 ≤ x .steps) × (x .steps ≤ 3650)
   pub tranches : (1 ≤ x .tranches) × (x .tranches ≤ 8)
 
 -- 2: the lengths of the sheet's own lists
-pub record ListsFit (x : Brought) : Type 0 where
-  pub attachments : length (x .sheet .attachments) ≡ x .sheet .tranches + 1
-  pub hazards : length (x .sheet .hazards) ≡ x .sheet .names
-  pub discounts : length (x .sheet .discounts) ≡ x .sheet .steps
-  pub accruals : length (x .sheet .accruals) ≡ x .sheet .steps
-  pub coupons : length (x .coupons) ≡ x .sheet .tranches + 1
+abbrev pub PointsFit : Terms → Type 0
+PointsFit x = length (x .attachments) ≡ x .tranches + 1
+
+pub record CurvesFit (x : Terms) : Type 0 where
+  pub hazards : length (x .hazards) ≡ x .names
+  pub discounts : length (x .discounts) ≡ x .steps
+  pub accruals : length (x .accruals) ≡ x .steps
+
+abbrev pub ListsFit : Brought → Type 0
+ListsFit x = PointsFit (x .sheet) × CurvesFit (x .sheet) × (length (x .coupons) ≡ x .sheet .tranches + 1)
 
 -- 3
-abbrev pub RecoveryInside : Sheet → Type 0
+abbrev pub RecoveryInside : Terms → Type 0
 RecoveryInside x = x .recovery ≤ B
 
 -- 4
-pub record AttachmentsRise (x : Sheet) : Type 0 where
+pub record AttachmentsRise (x : Terms) : Type 0 where
   pub rise : (j : ℕ) → j < x .tranches → getD (x .attachments) j 0 < getD (x .attachments) (suc j) 0
   pub most : (j : ℕ) → j < x .tranches + 1 → getD (x .attachments) j 0 ≤ B
 
 -- 5
-abbrev pub HazardsInside : Sheet → Type 0
+abbrev pub HazardsInside : Terms → Type 0
 HazardsInside x = (k : ℕ) → k < x .names → getD (x .hazards) k 0 ≤ B
 
 -- 6
-abbrev pub DiscountsInside : Sheet → Type 0
+abbrev pub DiscountsInside : Terms → Type 0
 DiscountsInside x = (i : ℕ) → i < x .steps → (1 ≤ getD (x .discounts) i 0) × (getD (x .discounts) i 0 ≤ B)
 
 -- 7
-pub record AccrualsInside (x : Sheet) : Type 0 where
+pub record AccrualsInside (x : Terms) : Type 0 where
   pub most : (i : ℕ) → i < x .steps → getD (x .accruals) i 0 ≤ B
   pub total : sumOf (x .accruals) ≤ 10 * B
   pub last : 1 ≤ getD (x .accruals) (pred (x .steps)) 0
@@ -58,3 +61,18 @@ pub record Limits (x : Brought) : Type 0 where
   pub discounts : DiscountsInside (x .sheet)
   pub accruals : AccrualsInside (x .sheet)
   pub coupons : CouponsInside x
+
+-- The part of them that losses and what is outstanding rest on: names, tranches, recovery and attachment points. ('Arithmetic and cash')
+pub record TranchesWithin (x : Terms) : Type 0 where
+  pub pool : PoolInside x
+  pub points : PointsFit x
+  pub recovery : RecoveryInside x
+  pub attachments : AttachmentsRise x
+
+-- The part that values rest on: all but the coupons.
+pub record TermsWithin (x : Terms) : Type 0 where
+  pub tranches : TranchesWithin x
+  pub curves : CurvesFit x
+  pub hazards : HazardsInside x
+  pub discounts : DiscountsInside x
+  pub accruals : AccrualsInside x

@@ -1,140 +1,73 @@
-// Sheets as they are brought, and the refusals 1 to 8 that look at nothing else.
+// A sheet: its figures by value, and where each of its lists stands in one lent list of numbers.
 ghost use mathlib.Core.Path.{_≡_};
-ghost use mathlib.Core.Bool.{false};
-ghost use mathlib.Core.List.{[]};
-ghost use Rattle.rows.specs.Rows.{sheetOf};
-ghost use Rattle.sheet.specs.Brought.{brought};
-ghost use Rattle.sheet.specs.Limits.{PoolInside, ListsFit};
-ghost use Rattle.sheet.specs.Tests.{poolBad, first, sheetTests};
-use cash::UNITS;
-pub use rows::Pool;
+ghost use Prim.Native.Nat.{_<_};
+ghost use lib.ListN.{length, getD};
+ghost use Rattle.sheet.specs.Spans.{listIn};
 
-mod checks;
+// The most names, steps and tranches of a sheet.
+pub const NAMES_MOST: usize = 125;
 
-// Every refusal of a call, with document 01's number and word.
-pub enum Refusal {
-    // 1, pool
-    Pool,
-    // 2, length
-    Length,
-    // 3, recovery
-    Recovery,
-    // 4, cuts
-    Attachments,
-    // 5, hazard
-    Hazard,
-    // 6, discount
-    Discount,
-    // 7, accrual
-    Accrual,
-    // 8, coupon
-    Coupon,
-    // 9, withdrawn
-    Withdrawn,
-    // 10, unissued
-    Unissued,
-    // 11, no walk
-    NoWalk,
-    // 12, soiled
-    OverCeiling,
-    // 13, out of steps
-    OutOfSteps,
-    // 14, off tree
-    OffTree,
-    // 15, flat hedge
-    FlatHedge,
-    // 16, off scale
-    OffScale,
+pub const STEPS_MOST: usize = 3650;
+
+pub const TRANCHES_MOST: usize = 8;
+
+// The most counts of defaults, attachment points or coupons, and entries of a row.
+pub const COUNTS_MOST: usize = 126;
+
+pub const POINTS_MOST: usize = 9;
+
+pub const ROW_MOST: usize = 1134;
+
+// A sheet's figures but for its lists: its names, steps, tranches, recovery and number.
+#[repr(C)]
+pub struct Pool {
+    pub names: usize,
+    pub steps: usize,
+    pub tranches: usize,
+    pub recovery: u64,
+    pub number: u8,
 }
 
-// What a list of checks finds: the first refusal, or nothing.
-pub enum Found {
-    Fine,
-    Refused(Refusal),
+// Where a list stands among the numbers that are lent.
+#[repr(C)]
+pub struct Span {
+    pub at: usize,
+    pub length: usize,
 }
 
-// The highest coupon, in thousandths of a basis point a year.
-const COUPON_MOST: u64 = 10_000_000;
+// A sheet as a call brings it; its numbers are lent beside it.
+#[repr(C)]
+pub struct Sheet {
+    pub pool: Pool,
+    pub attachments: Span,
+    pub hazards: Span,
+    pub discounts: Span,
+    pub accruals: Span,
+    pub coupons: Span,
+}
 
-// 1: whether the names, steps or tranches are outside their limits.
-pub fn pool_outside(pool: Pool) -> bool
-    ensures { λ r. ⌜ r ≡ poolBad (sheetOf pool [] [] [] []) ⌝ }
+// The list of a span. One that reaches past the end is shorter than it says.
+pub fn part<'a>(span: Span, numbers: &'a [u64]) -> &'a [u64]
+    ensures { λ r. ⌜ now r ≡ listIn span (now (numbers .entry)) ⌝ }
 {
-    if pool.names < 1 {
-        return true;
+    let size = numbers.len();
+    let at = span.at;
+    if size < at {
+        return &numbers[size..size];
     }
-    if 125 < pool.names {
-        return true;
+    let length = span.length;
+    if size - at < length {
+        return &numbers[at..size];
     }
-    if pool.steps < 1 {
-        return true;
-    }
-    if 3650 < pool.steps {
-        return true;
-    }
-    if pool.tranches < 1 {
-        return true;
-    }
-    if 8 < pool.tranches {
-        return true;
-    }
-    false
+    let end = at + length;
+    &numbers[at..end]
 }
 
-// Checks 3 to 8, on a pool within its limits and lists of the right lengths.
-fn figures_refusal(
-    pool: Pool,
-    attachments: &[u64],
-    hazards: &[u64],
-    discounts: &[u64],
-    accruals: &[u64],
-    coupons: &[u64],
-) -> Found
-    requires { ⌜ PoolInside (sheetOf pool (now attachments) (now hazards) (now discounts) (now accruals)) ⌝ }
-    requires { ⌜ ListsFit (brought pool (now attachments) (now hazards) (now discounts) (now accruals) (now coupons)) ⌝ }
-    ensures { λ r. ⌜ r ≡ first (sheetTests (brought pool (now (attachments .entry)) (now (hazards .entry)) (now (discounts .entry)) (now (accruals .entry)) (now (coupons .entry))) false []) ⌝ }
+// The number at a place of a span's list.
+pub fn number_at(span: Span, numbers: &[u64], place: usize) -> u64
+    requires { ⌜ place < length (listIn span (now numbers)) ⌝ }
+    ensures { λ r. ⌜ r ≡ getD (listIn span (now (numbers .entry))) place 0 ⌝ }
 {
-    if UNITS < pool.recovery {
-        return Found::Refused(Refusal::Recovery);
-    }
-    if checks::attachments_bad(pool, attachments) {
-        return Found::Refused(Refusal::Attachments);
-    }
-    if lists::any_above(hazards, UNITS) {
-        return Found::Refused(Refusal::Hazard);
-    }
-    if lists::any_outside(discounts, 1, UNITS) {
-        return Found::Refused(Refusal::Discount);
-    }
-    if checks::accruals_bad(pool, accruals) {
-        return Found::Refused(Refusal::Accrual);
-    }
-    if lists::any_above(coupons, COUPON_MOST) {
-        return Found::Refused(Refusal::Coupon);
-    }
-    Found::Fine
-}
-
-// Checks 1 to 8 in order. `lent` tells whether a list lent beside the sheet's own has another length; it counts only where the pool is within its limits.
-pub fn sheet_refusal(
-    pool: Pool,
-    attachments: &[u64],
-    hazards: &[u64],
-    discounts: &[u64],
-    accruals: &[u64],
-    coupons: &[u64],
-    lent: bool,
-) -> Found
-    ensures { λ r. ⌜ r ≡ first (sheetTests (brought pool (now (attachments .entry)) (now (hazards .entry)) (now (discounts .entry)) (now (accruals .entry)) (now (coupons .entry))) lent []) ⌝ }
-{
-    if pool_outside(pool) {
-        return Found::Refused(Refusal::Pool);
-    }
-    if checks::lists_differ(pool, attachments, hazards, discounts, accruals, coupons) {
-        return Found::Refused(Refusal::Length);
-    }
-    if lent {
-        return Found::Refused(Refusal::Length);
-    }
-    figures_refusal(pool, attachments, hazards, discounts, accruals, coupons)
+    let list = part(span, numbers);
+    list[place]
 }

@@ -1,4 +1,4 @@
--- Laws of losses, widths and what is outstanding, on a sheet. Assumes nothing.
+-- Laws of losses, widths and what is outstanding, on a sheet.
 use Prim.Native.Nat.{ℕ, suc, _+_, _-_, _≤_, _<_}
 use mathlib.Core.Path.{_≡_, refl, ap, ap₂, sym, _∙_}
 use mathlib.Core.List.{List}
@@ -10,98 +10,77 @@ use lib.ListN.{length, getD}
 use borrow.Author.Tests.{lt-ltb, le-ltb}
 use Rattle.cash.specs.Units.{B}
 use Rattle.cash.specs.Losses.{poolLoss, trancheLoss, trancheOutstanding, indexOutstanding, defaultPayment}
-use Rattle.cash.proofs.Losses.{pool-loss-rises, pool-loss-most, tranche-loss-rises, tranche-loss-most, tranche-loss-whole, outstanding-most, index-outstanding-most}
-use Rattle.tree.specs.Sheet.{Sheet, poolLossOf, lossOf, widthOf, outstandingOf, defaultMost}
-use Rattle.rows.specs.Rows.{sheetOf, nodeIn, rowOf}
+use Rattle.cash.proofs.Losses.{pool-loss-most, tranche-loss-whole}
+use Rattle.sheet.specs.Terms.{Terms, termsOf, bare}
+use Rattle.sheet.specs.Limits.{TranchesWithin}
+use Rattle.sheet.proofs.Limits.{attachment-most}
+use Rattle.tree.specs.Sheet.{poolLossOf, lossOf, widthOf, outstandingOf, defaultMost}
+use Rattle.tree.proofs.Sheets.{outstanding-within}
+use Rattle.rows.specs.Rows.{rowLength, nodeIn, rowOf}
 use Rattle.rows.specs.Kernels.{poolLosses, lowerOf, upperOf, paymentOf}
-use Rattle.rows.specs.Limits.{Limits, Tranched, bare, size}
-use Rattle.rows.specs.declared.Pool.{Pool}
+use Rattle.sheet.specs.declared.Pool.{Pool}
 use Rattle.rows.proofs.Tables.{length-tab, getD-tab, every, node-row}
 
 -- ---- a tranche, and the index
 
-pub loss-tranche : (x : Sheet) (j k : ℕ) → j < x .tranches → lossOf x j k ≡ trancheLoss (getD (x .attachments) j 0) (getD (x .attachments) (suc j) 0) (poolLoss (x .names) (x .recovery) k)
+pub loss-tranche : (x : Terms) (j k : ℕ) → j < x .tranches → lossOf x j k ≡ trancheLoss (getD (x .attachments) j 0) (getD (x .attachments) (suc j) 0) (poolLoss (x .names) (x .recovery) k)
 unfolding lossOf poolLossOf
 loss-tranche x j k h = rw (lt-ltb j (x .tranches) h)
 
-pub loss-index : (x : Sheet) (j k : ℕ) → x .tranches ≤ j → lossOf x j k ≡ poolLoss (x .names) (x .recovery) k
+pub loss-index : (x : Terms) (j k : ℕ) → x .tranches ≤ j → lossOf x j k ≡ poolLoss (x .names) (x .recovery) k
 unfolding lossOf poolLossOf
 loss-index x j k h = rw (le-ltb j (x .tranches) h)
 
-pub width-tranche : (x : Sheet) (j : ℕ) → j < x .tranches → widthOf x j ≡ getD (x .attachments) (suc j) 0 - getD (x .attachments) j 0
+pub width-tranche : (x : Terms) (j : ℕ) → j < x .tranches → widthOf x j ≡ getD (x .attachments) (suc j) 0 - getD (x .attachments) j 0
 unfolding widthOf
 width-tranche x j h = rw (lt-ltb j (x .tranches) h)
 
-pub width-index : (x : Sheet) (j : ℕ) → x .tranches ≤ j → widthOf x j ≡ B - x .recovery
+pub width-index : (x : Terms) (j : ℕ) → x .tranches ≤ j → widthOf x j ≡ B - x .recovery
 unfolding widthOf
 width-index x j h = rw (le-ltb j (x .tranches) h)
 
-pub outstanding-tranche : (x : Sheet) (j k : ℕ) → j < x .tranches → outstandingOf x j k ≡ trancheOutstanding (getD (x .attachments) j 0) (getD (x .attachments) (suc j) 0) (poolLoss (x .names) (x .recovery) k)
+pub outstanding-tranche : (x : Terms) (j k : ℕ) → j < x .tranches → outstandingOf x j k ≡ trancheOutstanding (getD (x .attachments) j 0) (getD (x .attachments) (suc j) 0) (poolLoss (x .names) (x .recovery) k)
 unfolding outstandingOf poolLossOf
 outstanding-tranche x j k h = rw (lt-ltb j (x .tranches) h)
 
-pub outstanding-index : (x : Sheet) (j k : ℕ) → x .tranches ≤ j → outstandingOf x j k ≡ indexOutstanding (x .names) k
+pub outstanding-index : (x : Terms) (j k : ℕ) → x .tranches ≤ j → outstandingOf x j k ≡ indexOutstanding (x .names) k
 unfolding outstandingOf
 outstanding-index x j k h = rw (le-ltb j (x .tranches) h)
 
 -- ---- as the code has them, with the upper attachment at j + 1
 
-pub loss-is : (x : Sheet) (j k loss r : ℕ) → j < x .tranches → loss ≡ poolLoss (x .names) (x .recovery) k → r ≡ trancheLoss (getD (x .attachments) j 0) (getD (x .attachments) (j + 1) 0) loss → r ≡ lossOf x j k
+pub loss-is : (x : Terms) (j k loss r : ℕ) → j < x .tranches → loss ≡ poolLoss (x .names) (x .recovery) k → r ≡ trancheLoss (getD (x .attachments) j 0) (getD (x .attachments) (j + 1) 0) loss → r ≡ lossOf x j k
 loss-is x j k loss r h e q =
     q
     ∙ (λ t. trancheLoss (getD (x .attachments) j 0) (getD (x .attachments) (add-one j t) 0) (e t))
     ∙ sym (loss-tranche x j k h)
 
-pub outstanding-is : (x : Sheet) (j k loss r : ℕ) → j < x .tranches → loss ≡ poolLoss (x .names) (x .recovery) k → r ≡ trancheOutstanding (getD (x .attachments) j 0) (getD (x .attachments) (j + 1) 0) loss → r ≡ outstandingOf x j k
+pub outstanding-is : (x : Terms) (j k loss r : ℕ) → j < x .tranches → loss ≡ poolLoss (x .names) (x .recovery) k → r ≡ trancheOutstanding (getD (x .attachments) j 0) (getD (x .attachments) (j + 1) 0) loss → r ≡ outstandingOf x j k
 outstanding-is x j k loss r h e q =
     q
     ∙ (λ t. trancheOutstanding (getD (x .attachments) j 0) (getD (x .attachments) (add-one j t) 0) (e t))
     ∙ sym (outstanding-tranche x j k h)
 
-pub width-is : (x : Sheet) (j : ℕ) → j < x .tranches → getD (x .attachments) (j + 1) 0 - getD (x .attachments) j 0 ≡ widthOf x j
+pub width-is : (x : Terms) (j : ℕ) → j < x .tranches → getD (x .attachments) (j + 1) 0 - getD (x .attachments) j 0 ≡ widthOf x j
 width-is x j h = ap (λ (n : ℕ). getD (x .attachments) n 0 - getD (x .attachments) j 0) (add-one j) ∙ sym (width-tranche x j h)
 
-pub rises-here : (x : Sheet) (j : ℕ) → Tranched x → j < x .tranches → getD (x .attachments) j 0 ≤ getD (x .attachments) (j + 1) 0
-rises-here x j t h = rw (add-one j) (le-of-lt (t .attachments-rise j h))
+pub rises-here : (x : Terms) (j : ℕ) → TranchesWithin x → j < x .tranches → getD (x .attachments) j 0 ≤ getD (x .attachments) (j + 1) 0
+rises-here x j t h = rw (add-one j) (le-of-lt (t .attachments .rise j h))
 
 -- ---- bounds
 
-pub loss-rises : (x : Sheet) → 0 < x .names → (j k : ℕ) → lossOf x j k ≤ lossOf x j (suc k)
-loss-rises x some j k = go (decLt j (x .tranches))
-  where
-    up : poolLoss (x .names) (x .recovery) k ≤ poolLoss (x .names) (x .recovery) (suc k)
-    up = pool-loss-rises (x .names) (x .recovery) k some
-
-    go : Dec (j < x .tranches) → lossOf x j k ≤ lossOf x j (suc k)
-    go (yes h) = rw (loss-tranche x j k h, loss-tranche x j (suc k) h) (tranche-loss-rises _ _ _ _ up)
-    go (no h) = rw (loss-index x j k (omega arith), loss-index x j (suc k) (omega arith)) up
-
-pub width-most : (x : Sheet) → ((j : ℕ) → getD (x .attachments) j 0 ≤ B) → (j : ℕ) → widthOf x j ≤ B
-width-most x most j = go (decLt j (x .tranches))
+pub width-most : (x : Terms) → TranchesWithin x → (j : ℕ) → widthOf x j ≤ B
+width-most x t j = go (decLt j (x .tranches))
   where
     go : Dec (j < x .tranches) → widthOf x j ≤ B
-    go (yes h) = omega (arith, width-tranche x j h, most (suc j))
+    go (yes h) = omega (arith, width-tranche x j h, attachment-most x t (suc j))
     go (no h) = omega (arith, width-index x j (omega arith))
 
-pub loss-width : (x : Sheet) (j k : ℕ) → k ≤ x .names → lossOf x j k ≤ widthOf x j
-loss-width x j k q = go (decLt j (x .tranches))
-  where
-    go : Dec (j < x .tranches) → lossOf x j k ≤ widthOf x j
-    go (yes h) = rw (loss-tranche x j k h, width-tranche x j h) (tranche-loss-most _ _ _)
-    go (no h) = rw (loss-index x j k (omega arith), width-index x j (omega arith)) (pool-loss-most (x .names) (x .recovery) k q)
-
-pub outstanding-low : (x : Sheet) → ((j : ℕ) → getD (x .attachments) j 0 ≤ B) → (j k : ℕ) → outstandingOf x j k ≤ B
-outstanding-low x most j k = go (decLt j (x .tranches))
-  where
-    go : Dec (j < x .tranches) → outstandingOf x j k ≤ B
-    go (yes h) = rw (outstanding-tranche x j k h) (outstanding-most _ _ _ (most (suc j)))
-    go (no h) = rw (outstanding-index x j k (omega arith)) (index-outstanding-most (x .names) k)
-
-pub outstandings-low : (x : Sheet) → Limits x → (out : List ℕ) → out ≡ rowOf x (outstandingOf x) → (n : ℕ) → n < size x → getD out n 0 ≤ B
+pub outstandings-low : (x : Terms) → TranchesWithin x → (out : List ℕ) → out ≡ rowOf x (outstandingOf x) → (n : ℕ) → n < rowLength x → getD out n 0 ≤ B
 unfolding nodeIn
-outstandings-low x l out o n h =
+outstandings-low x t out o n h =
     every (λ y. y ≤ B) (suc (x .tranches)) (suc (x .names)) out (omega arith)
-    (λ j k p q. rw (o, node-row x (outstandingOf x) j k (omega arith) (omega arith)) (outstanding-low x (l .within .attachment-most) j k)) n h
+    (λ j k p q. rw (o, node-row x (outstandingOf x) j k (omega arith) (omega arith)) (outstanding-within x t j k)) n h
 
 -- ---- the table of losses
 
@@ -115,37 +94,37 @@ losses-at names recovery k h = getD-tab (suc names) (poolLoss names recovery) k 
 
 -- ---- the points of a tranche, and of the index
 
-pub lower-tranche : (x : Sheet) (j : ℕ) → j < x .tranches → lowerOf x j ≡ getD (x .attachments) j 0
+pub lower-tranche : (x : Terms) (j : ℕ) → j < x .tranches → lowerOf x j ≡ getD (x .attachments) j 0
 unfolding lowerOf
 lower-tranche x j h = rw (lt-ltb j (x .tranches) h)
 
-pub lower-index : (x : Sheet) (j : ℕ) → x .tranches ≤ j → lowerOf x j ≡ 0
+pub lower-index : (x : Terms) (j : ℕ) → x .tranches ≤ j → lowerOf x j ≡ 0
 unfolding lowerOf
 lower-index x j h = rw (le-ltb j (x .tranches) h)
 
-pub upper-tranche : (x : Sheet) (j : ℕ) → j < x .tranches → upperOf x j ≡ getD (x .attachments) (suc j) 0
+pub upper-tranche : (x : Terms) (j : ℕ) → j < x .tranches → upperOf x j ≡ getD (x .attachments) (suc j) 0
 unfolding upperOf
 upper-tranche x j h = rw (lt-ltb j (x .tranches) h)
 
-pub upper-index : (x : Sheet) (j : ℕ) → x .tranches ≤ j → upperOf x j ≡ B - x .recovery
+pub upper-index : (x : Terms) (j : ℕ) → x .tranches ≤ j → upperOf x j ≡ B - x .recovery
 unfolding upperOf
 upper-index x j h = rw (le-ltb j (x .tranches) h)
 
-pub points-rise : (x : Sheet) → Tranched x → (j : ℕ) → lowerOf x j ≤ upperOf x j
+pub points-rise : (x : Terms) → TranchesWithin x → (j : ℕ) → lowerOf x j ≤ upperOf x j
 points-rise x t j = go (decLt j (x .tranches))
   where
     go : Dec (j < x .tranches) → lowerOf x j ≤ upperOf x j
-    go (yes h) = rw (lower-tranche x j h, upper-tranche x j h) (le-of-lt (t .attachments-rise j h))
+    go (yes h) = rw (lower-tranche x j h, upper-tranche x j h) (le-of-lt (t .attachments .rise j h))
     go (no h) = omega (arith, lower-index x j (omega arith))
 
-pub width-between : (x : Sheet) (j : ℕ) → widthOf x j ≡ upperOf x j - lowerOf x j
+pub width-between : (x : Terms) (j : ℕ) → widthOf x j ≡ upperOf x j - lowerOf x j
 width-between x j = go (decLt j (x .tranches))
   where
     go : Dec (j < x .tranches) → widthOf x j ≡ upperOf x j - lowerOf x j
     go (yes h) = rw (lower-tranche x j h, upper-tranche x j h) (width-tranche x j h)
     go (no h) = omega (arith, lower-index x j (omega arith), upper-index x j (omega arith), width-index x j (omega arith))
 
-pub loss-between : (x : Sheet) (j k : ℕ) → k ≤ x .names → trancheLoss (lowerOf x j) (upperOf x j) (poolLoss (x .names) (x .recovery) k) ≡ lossOf x j k
+pub loss-between : (x : Terms) (j k : ℕ) → k ≤ x .names → trancheLoss (lowerOf x j) (upperOf x j) (poolLoss (x .names) (x .recovery) k) ≡ lossOf x j k
 loss-between x j k q = go (decLt j (x .tranches))
   where
     go : Dec (j < x .tranches) → trancheLoss (lowerOf x j) (upperOf x j) (poolLoss (x .names) (x .recovery) k) ≡ lossOf x j k
@@ -156,7 +135,7 @@ loss-between x j k q = go (decLt j (x .tranches))
         rw (low, high) (tranche-loss-whole (B - x .recovery) (poolLoss (x .names) (x .recovery) k) (pool-loss-most (x .names) (x .recovery) k q) ∙ sym (loss-index x j k (omega arith)))
 
 -- as the code has it, from the table
-pub loss-read : (x : Sheet) (j k lower upper r : ℕ) (losses : List ℕ) → k ≤ x .names → lower ≡ lowerOf x j → upper ≡ upperOf x j → losses ≡ poolLosses (x .names) (x .recovery)
+pub loss-read : (x : Terms) (j k lower upper r : ℕ) (losses : List ℕ) → k ≤ x .names → lower ≡ lowerOf x j → upper ≡ upperOf x j → losses ≡ poolLosses (x .names) (x .recovery)
     → r ≡ trancheLoss lower upper (getD losses k 0) → r ≡ lossOf x j k
 loss-read x j k lower upper r losses q a b e h =
     h
@@ -164,11 +143,11 @@ loss-read x j k lower upper r losses q a b e h =
     ∙ ap (trancheLoss (lowerOf x j) (upperOf x j)) (losses-at (x .names) (x .recovery) k q)
     ∙ loss-between x j k q
 
-pub ceiling-between : (x : Sheet) (j k : ℕ) → k ≤ x .names → trancheOutstanding (lowerOf x j) (upperOf x j) (poolLoss (x .names) (x .recovery) k) ≡ defaultMost x j k
+pub ceiling-between : (x : Terms) (j k : ℕ) → k ≤ x .names → trancheOutstanding (lowerOf x j) (upperOf x j) (poolLoss (x .names) (x .recovery) k) ≡ defaultMost x j k
 unfolding trancheOutstanding defaultMost
 ceiling-between x j k q = ap₂ (λ a b. a - b) (sym (width-between x j)) (loss-between x j k q)
 
-pub ceiling-read : (x : Sheet) (j k lower upper r : ℕ) (losses : List ℕ) → k ≤ x .names → lower ≡ lowerOf x j → upper ≡ upperOf x j → losses ≡ poolLosses (x .names) (x .recovery)
+pub ceiling-read : (x : Terms) (j k lower upper r : ℕ) (losses : List ℕ) → k ≤ x .names → lower ≡ lowerOf x j → upper ≡ upperOf x j → losses ≡ poolLosses (x .names) (x .recovery)
     → r ≡ trancheOutstanding lower upper (getD losses k 0) → r ≡ defaultMost x j k
 ceiling-read x j k lower upper r losses q a b e h =
     h
@@ -178,41 +157,29 @@ ceiling-read x j k lower upper r losses q a b e h =
 
 -- ---- what a default pays
 
-pub payment-before : (x : Sheet) (j k : ℕ) → k < x .names → paymentOf x j k ≡ defaultPayment (lossOf x j k) (lossOf x j (suc k))
+pub payment-before : (x : Terms) (j k : ℕ) → k < x .names → paymentOf x j k ≡ defaultPayment (lossOf x j k) (lossOf x j (suc k))
 unfolding paymentOf
 payment-before x j k h = rw (lt-ltb k (x .names) h)
 
-pub payment-last : (x : Sheet) (j k : ℕ) → x .names ≤ k → paymentOf x j k ≡ 0
+pub payment-last : (x : Terms) (j k : ℕ) → x .names ≤ k → paymentOf x j k ≡ 0
 unfolding paymentOf
 payment-last x j k h = rw (le-ltb k (x .names) h)
 
 -- ---- no list but the attachments counts
 
 module _ (pool : Pool) (attachments hazards discounts accruals : List ℕ) where
-  pub loss-bare : lossOf (bare pool attachments) ≡ lossOf (sheetOf pool attachments hazards discounts accruals)
+  pub loss-bare : lossOf (bare pool attachments) ≡ lossOf (termsOf pool attachments hazards discounts accruals)
   unfolding lossOf poolLossOf
   loss-bare = refl
 
-  pub outstanding-bare : outstandingOf (bare pool attachments) ≡ outstandingOf (sheetOf pool attachments hazards discounts accruals)
+  pub outstanding-bare : outstandingOf (bare pool attachments) ≡ outstandingOf (termsOf pool attachments hazards discounts accruals)
   unfolding outstandingOf poolLossOf
   outstanding-bare = refl
 
-  pub payment-bare : paymentOf (bare pool attachments) ≡ paymentOf (sheetOf pool attachments hazards discounts accruals)
+  pub payment-bare : paymentOf (bare pool attachments) ≡ paymentOf (termsOf pool attachments hazards discounts accruals)
   unfolding paymentOf lossOf poolLossOf
   payment-bare = refl
 
-  pub ceiling-bare : defaultMost (bare pool attachments) ≡ defaultMost (sheetOf pool attachments hazards discounts accruals)
+  pub ceiling-bare : defaultMost (bare pool attachments) ≡ defaultMost (termsOf pool attachments hazards discounts accruals)
   unfolding defaultMost lossOf poolLossOf widthOf
   ceiling-bare = refl
-
-  pub limits-bare : Limits (sheetOf pool attachments hazards discounts accruals) → Tranched (bare pool attachments)
-  limits-bare l =
-      record {
-        names-some = l .within .some;
-        names-most = l .names-most;
-        tranches-most = l .tranches-most;
-        recovery-most = l .recovery-most;
-        attachments-long = l .attachments-long;
-        attachment-most = l .within .attachment-most;
-        attachments-rise = l .within .attachments-rise;
-      }

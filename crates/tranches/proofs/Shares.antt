@@ -1,5 +1,5 @@
--- Multiples of a number divided one after the other, with the remainder kept. Assumes nothing.
-use Prim.Native.Nat.{ℕ, suc, _+_, _-_, _*_, _/_, _%_, _≤_, _<_}
+-- Multiples of a number divided one after the other, with the remainder kept.
+use Prim.Native.Nat.{ℕ, _+_, _-_, _*_, _/_, _%_, _≤_, _<_}
 use mathlib.Core.Path.{_≡_, ap, sym, _∙_}
 use native.Mathlib.Decide.{decLt}
 use native.Mathlib.Nat.{div-add-mod', mod-lt, mul-le-mul, mul-le-mul-left, mul-le-mul-right, div-le-self}

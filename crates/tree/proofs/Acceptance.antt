@@ -1,4 +1,4 @@
--- The trial entries, by computation. Assumes nothing.
+-- The trial entries, by computation.
 use mathlib.Core.Path.{refl}
 use lib.Dec.{lit≤}
 use Rattle.cash.specs.Units.{B, half}
@@ -8,11 +8,11 @@ use Rattle.tree.specs.Paths.{allMoves, keeps, those, paths, weight, paid
 use Rattle.tree.specs.Backward.{rollNode, backFrom, back, over, legValue, legExact}
 use Rattle.tree.specs.Legs.{defaultCash, premiumCash, premiumExact, mark}
 use Rattle.tree.specs.Sheet.{hazardOf, discountOf, accrualOf, poolLossOf, lossOf, outstandingOf, treeOf, defaultOf, premiumOf, D, A, exactD, exactA, dates, spanning}
-use Rattle.tree.specs.Forward.{same, moved, fromBelow, pushed, distribution, lands, probability, apart, errors}
+use Rattle.tree.specs.Forward.{same, outflow, fromBelow, pushed, distribution, lands, probability, apart, errors}
 use Rattle.tree.specs.Trials.{Starred, Exactly, Roundings, Bounds}
 
 pub starred : Starred
-unfolding B half poolLoss trancheLoss trancheOutstanding indexOutstanding defaultPayment premiumPayment rollNode backFrom back legValue defaultCash premiumCash hazardOf discountOf accrualOf poolLossOf lossOf outstandingOf treeOf defaultOf premiumOf D A same moved fromBelow pushed distribution
+unfolding B half poolLoss trancheLoss trancheOutstanding indexOutstanding defaultPayment premiumPayment rollNode backFrom back legValue defaultCash premiumCash hazardOf discountOf accrualOf poolLossOf lossOf outstandingOf treeOf defaultOf premiumOf D A same outflow fromBelow pushed distribution
 starred =
     record {
       first-at-6 = refl;
@@ -50,7 +50,7 @@ exactly =
     }
 
 pub roundings : Roundings
-unfolding B half poolLoss trancheLoss trancheOutstanding indexOutstanding defaultPayment premiumPayment rollNode backFrom back legValue defaultCash premiumCash hazardOf discountOf accrualOf poolLossOf lossOf outstandingOf treeOf defaultOf premiumOf D A same moved fromBelow pushed distribution
+unfolding B half poolLoss trancheLoss trancheOutstanding indexOutstanding defaultPayment premiumPayment rollNode backFrom back legValue defaultCash premiumCash hazardOf discountOf accrualOf poolLossOf lossOf outstandingOf treeOf defaultOf premiumOf D A same outflow fromBelow pushed distribution
 roundings =
     record {
       loss-at-1 = refl;
@@ -68,7 +68,7 @@ roundings =
     }
 
 pub bounds : Bounds
-unfolding B half sumTo poolLoss trancheLoss trancheOutstanding defaultPayment premiumPayment rollNode backFrom back over legValue defaultCash premiumCash mark hazardOf discountOf accrualOf poolLossOf lossOf outstandingOf treeOf defaultOf premiumOf D A dates spanning allMoves keeps those paths weight total pathSum same moved fromBelow pushed distribution lands probability apart errors
+unfolding B half sumTo poolLoss trancheLoss trancheOutstanding defaultPayment premiumPayment rollNode backFrom back over legValue defaultCash premiumCash mark hazardOf discountOf accrualOf poolLossOf lossOf outstandingOf treeOf defaultOf premiumOf D A dates spanning allMoves keeps those paths weight total pathSum same outflow fromBelow pushed distribution lands probability apart errors
 bounds =
     record {
       defaults-add = record { below = lit≤ tt; above = lit≤ tt };

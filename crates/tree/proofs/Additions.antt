@@ -1,4 +1,4 @@
--- Legs that pay together what another pays: their exact values add exactly, their rounded values within their distances. Assumes nothing.
+-- Legs that pay together what another pays: their exact values add exactly, their rounded values within their distances.
 use Prim.Native.Nat.{ℕ, zero, suc, _+_, _*_, _^_, _≤_, _<_}
 use native.Mathlib.Nat.{one-le-pow}
 use mathlib.Core.Path.{_≡_, refl, sym, _∙_, ap, ap₂, fun-ext}
@@ -10,7 +10,7 @@ use Rattle.cash.specs.Sums.{sumTo}
 use Rattle.cash.proofs.Nearness.{near-trans, near-as, near-swap, near-cancel}
 use Rattle.cash.proofs.Rounding.{B-positive}
 use Rattle.cash.proofs.Sums.{sum-cong, sum-times, sum-const, near-sum}
-use Rattle.tree.specs.Paths.{Move, after, Cash, Tree, Fair, paid, pathSum, exact}
+use Rattle.tree.specs.Paths.{Move, countAfter, Cash, Tree, Fair, paid, pathSum, exact}
 use Rattle.tree.specs.Backward.{Leg, Agrees, legValue, legExact, legHalves}
 use Rattle.tree.proofs.PathSums.{path-sum-add}
 use Rattle.tree.proofs.Distances.{leg-distance}
@@ -18,7 +18,7 @@ use Rattle.tree.proofs.Distances.{leg-distance}
 paid-add : (t : Tree) (u c : Cash) (d i k : ℕ) (ms : List Move) → paid t (λ s a m. u s a m + c s a m) d i k ms ≡ paid t u d i k ms + paid t c d i k ms
 unfolding paid
 paid-add t u c d i k [] = refl
-paid-add t u c d i k (m ∷ ms) = omega (arith, paid-add t u c (d * t .discount (suc i)) (suc i) (after k m) ms)
+paid-add t u c d i k (m ∷ ms) = omega (arith, paid-add t u c (d * t .discount (suc i)) (suc i) (countAfter k m) ms)
 
 pub exact-add : (t : Tree) (u c : Cash) (h i k : ℕ) → exact t (λ s a m. u s a m + c s a m) h i k ≡ exact t u h i k + exact t c h i k
 unfolding exact

@@ -1,4 +1,4 @@
--- Ceilings of walked rows, from any row that keeps to its own. Assumes nothing.
+-- Ceilings of walked rows, from any row that keeps to its own.
 use Prim.Native.Nat.{ℕ, zero, suc, _+_, _-_, _≤_, _<_}
 use native.Mathlib.Nat.{add-zero}
 use mathlib.Core.Path.{_≡_, refl, sym, _∙_, ap}

@@ -1,4 +1,4 @@
--- How far the rounded rule may lie from the exact value, of any leg. Assumes nothing.
+-- How far the rounded rule may lie from the exact value, of any leg.
 use Prim.Native.Nat.{ℕ, zero, suc, _+_, _*_, _^_, _≤_, _<_}
 use native.Mathlib.Nat.{pow-suc}
 use mathlib.Core.Path.{_≡_, refl, _∙_, ap}

@@ -1,4 +1,4 @@
--- The distribution of the default count: its total, and its errors against the exact probabilities. Assumes nothing.
+-- The distribution of the default count: its total, and its errors against the exact probabilities.
 use Prim.Native.Nat.{ℕ, zero, suc, _+_, _-_, _*_, _^_, _≤_, zero-le}
 use native.Mathlib.Nat.{mul-le-mul-left, mul-le-mul-right, mul-zero, add-zero, zero-add, mul-one, pow-suc, pow-zero, suc-add, add-suc, sub-le, sub-add-cancel}
 use mathlib.Core.Path.{_≡_, refl, sym, _∙_, ap, ap₂, fun-ext}
@@ -12,7 +12,7 @@ use Rattle.cash.proofs.Nearness.{near-as, near-add, near-times}
 use Rattle.cash.proofs.Rounding.{half-near, half-most}
 use Rattle.cash.proofs.Sums.{sum-cong, sum-add, sum-times, sum-const, sum-le}
 use Rattle.tree.specs.Paths.{Tree, Fair, pathSum}
-use Rattle.tree.specs.Forward.{same, moved, fromBelow, pushed, distribution, lands, probability, apart, errors}
+use Rattle.tree.specs.Forward.{same, outflow, fromBelow, pushed, distribution, lands, probability, apart, errors}
 use Rattle.tree.proofs.PathSums.{default-eq, path-sum-step, path-sum-zero, path-sum-add, path-sum-times, mixed}
 
 -- ---- the exact probabilities by the last move
@@ -90,12 +90,12 @@ probability-step t fair h (suc z) =
 
 -- ---- the total
 
-pub moved-le : (t : Tree) → Fair t → (s : ℕ) (q : ℕ → ℕ) (k : ℕ) → moved t s q k ≤ q k
-unfolding moved
+pub moved-le : (t : Tree) → Fair t → (s : ℕ) (q : ℕ → ℕ) (k : ℕ) → outflow t s q k ≤ q k
+unfolding outflow
 moved-le t fair s q k = half-most _ _ (mul-le-mul-left (q k) (fair .sure s k))
 
-moved-last : (t : Tree) → Fair t → (s : ℕ) (q : ℕ → ℕ) → moved t s q (t .names) ≡ 0
-unfolding moved half B
+moved-last : (t : Tree) → Fair t → (s : ℕ) (q : ℕ → ℕ) → outflow t s q (t .names) ≡ 0
+unfolding outflow half B
 moved-last t fair s q = rw (fair .last s) (omega arith)
 
 sum-from-below : (n : ℕ) (f : ℕ → ℕ) → sumTo (suc n) (fromBelow f) ≡ sumTo n f
@@ -107,12 +107,12 @@ sum-from-below (suc n) f = ap (λ x. x + f n) (sum-from-below n f)
 pub pushed-total : (t : Tree) → Fair t → (s : ℕ) (q : ℕ → ℕ) → sumTo (suc (t .names)) (pushed t s q) ≡ sumTo (suc (t .names)) q
 unfolding pushed sumTo
 pushed-total t fair s q =
-    sum-add (suc n) (λ k. q k - moved t s q k) (fromBelow (moved t s q))
-    ∙ ap (λ x. sumTo (suc n) (λ k. q k - moved t s q k) + x) (sum-from-below n (moved t s q))
+    sum-add (suc n) (λ k. q k - outflow t s q k) (fromBelow (outflow t s q))
+    ∙ ap (λ x. sumTo (suc n) (λ k. q k - outflow t s q k) + x) (sum-from-below n (outflow t s q))
     ∙ omega (
       arith,
-      sum-add (suc n) (λ k. q k - moved t s q k) (moved t s q),
-      sum-cong (suc n) (λ k. q k - moved t s q k + moved t s q k) q (λ k l. sub-add-cancel (moved-le t fair s q k)),
+      sum-add (suc n) (λ k. q k - outflow t s q k) (outflow t s q),
+      sum-cong (suc n) (λ k. q k - outflow t s q k + outflow t s q k) q (λ k l. sub-add-cancel (moved-le t fair s q k)),
       moved-last t fair s q,
     )
   where
@@ -158,7 +158,7 @@ error : Tree → ℕ → ℕ → ℕ
 error t h k = apart (distribution t h k * B ^ h) (probability t h k * B)
 
 slip : Tree → ℕ → ℕ → ℕ
-slip t h k = apart (moved t (suc h) (distribution t h) k * B) (distribution t h k * t .hazard (suc h) k)
+slip t h k = apart (outflow t (suc h) (distribution t h) k * B) (distribution t h k * t .hazard (suc h) k)
 
 keptError : Tree → ℕ → ℕ → ℕ
 keptError t h k = (B - t .hazard (suc h) k) * error t h k + B ^ h * slip t h k
@@ -167,16 +167,16 @@ goneError : Tree → ℕ → ℕ → ℕ
 goneError t h k = t .hazard (suc h) k * error t h k + B ^ h * slip t h k
 
 kept-near : (t : Tree) → Fair t → (h k : ℕ) →
-    Near (keptError t h k) ((distribution t h k - moved t (suc h) (distribution t h) k) * (B ^ h * B)) ((B - t .hazard (suc h) k) * probability t h k * B)
+    Near (keptError t h k) ((distribution t h k - outflow t (suc h) (distribution t h) k) * (B ^ h * B)) ((B - t .hazard (suc h) k) * probability t h k * B)
 unfolding keptError error slip
 kept-near t fair h k =
-    remains (distribution t h k) (moved t (suc h) (distribution t h) k) (probability t h k) (t .hazard (suc h) k) (B ^ h)
+    remains (distribution t h k) (outflow t (suc h) (distribution t h) k) (probability t h k) (t .hazard (suc h) k) (B ^ h)
     (moved-le t fair (suc h) (distribution t h) k) (fair .sure (suc h) k)
 
 gone-near : (t : Tree) (h k : ℕ) →
-    Near (goneError t h k) (moved t (suc h) (distribution t h) k * (B ^ h * B)) (t .hazard (suc h) k * probability t h k * B)
+    Near (goneError t h k) (outflow t (suc h) (distribution t h) k * (B ^ h * B)) (t .hazard (suc h) k * probability t h k * B)
 unfolding goneError error slip
-gone-near t h k = goes (distribution t h k) (moved t (suc h) (distribution t h) k) (probability t h k) (t .hazard (suc h) k) (B ^ h)
+gone-near t h k = goes (distribution t h k) (outflow t (suc h) (distribution t h) k) (probability t h k) (t .hazard (suc h) k) (B ^ h)
 
 error-step : (t : Tree) → Fair t → (h k : ℕ) → error t (suc h) k ≤ keptError t h k + fromBelow (goneError t h) k
 unfolding error distribution pushed fromBelow
@@ -188,7 +188,7 @@ error-step t fair h (suc k) =
     (omega arith) (rw pow-suc (omega arith)) (rw (probability-step t fair h (suc k)) (unfold fromBelow in omega arith)))
 
 slip-half : (t : Tree) (h k : ℕ) → 2 * slip t h k ≤ B
-unfolding slip moved apart
+unfolding slip outflow apart
 slip-half t h k = omega (arith, half-near (distribution t h k * t .hazard (suc h) k))
 
 slip-last : (t : Tree) → Fair t → (h : ℕ) → slip t h (t .names) ≡ 0

@@ -1,4 +1,4 @@
--- What one default more does to walked rows. Assumes nothing.
+-- What one default more does to walked rows.
 use Prim.Native.Nat.{ℕ, zero, suc, _+_, _*_, _≤_, _<_}
 use native.Mathlib.Nat.{le-refl, le-trans, mul-le-mul-left}
 use native.Mathlib.Omega.{arith}

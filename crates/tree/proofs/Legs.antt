@@ -1,4 +1,4 @@
--- Laws of the default leg and the premium leg: their rounding, and legs side by side. Assumes nothing.
+-- Laws of the default leg and the premium leg: their rounding, and legs side by side.
 use Prim.Native.Nat.{ℕ, zero, suc, _-_, _*_, _≤_}
 use native.Mathlib.Nat.{zero-mul}
 use mathlib.Core.Path.{_≡_, refl, _∙_, ap, ap₂}
@@ -10,7 +10,7 @@ use Rattle.cash.specs.Losses.{defaultPayment, premiumPayment}
 use Rattle.cash.proofs.Nearness.{near-as}
 use Rattle.cash.proofs.Rounding.{half-near}
 use Rattle.cash.proofs.Sums.{sum-times, sum-sub, sum-const}
-use Rattle.tree.specs.Paths.{survive, default, after}
+use Rattle.tree.specs.Paths.{survive, default, countAfter}
 use Rattle.tree.specs.Backward.{Agrees, legHalves}
 use Rattle.tree.specs.Legs.{defaultCash, premiumCash, premiumExact, mark, defaultLeg, premiumLeg}
 use Rattle.tree.proofs.Rolling.{over-zero}
@@ -23,9 +23,9 @@ pub premium-agrees : (a O : ℕ → ℕ) → Agrees (premiumLeg a O)
 unfolding premiumCash premiumPayment premiumExact
 premium-agrees a O s k m = go (a s)
   where
-    go : (x : ℕ) → Near (mark x * B) (2 * (half (x * O (after k m)) * B)) (2 * (x * O (after k m)))
+    go : (x : ℕ) → Near (mark x * B) (2 * (half (x * O (countAfter k m)) * B)) (2 * (x * O (countAfter k m)))
     go zero = rw zero-mul (unfold half B mark in omega arith)
-    go (suc x) = near-as (half-near (suc x * O (after k m))) (unfold mark in omega arith) refl refl
+    go (suc x) = near-as (half-near (suc x * O (countAfter k m))) (unfold mark in omega arith) refl refl
 
 pub default-halves : (M : ℕ → ℕ) (h i : ℕ) → legHalves (defaultLeg M) h i ≡ 2 * h
 unfolding legHalves
@@ -44,4 +44,4 @@ defaults-span r M N adds rises s k survive = sum-const (B * 0) r ∙ omega arith
 pub premiums-span : (r : ℕ) (a : ℕ → ℕ) (O : ℕ → ℕ → ℕ) (P : ℕ → ℕ) → ((k : ℕ) → sumTo r (λ j. O j k) ≡ P k) →
     Spans r (λ j. premiumLeg a (O j)) (premiumLeg a P)
 unfolding premiumExact
-premiums-span r a O P adds s k m = sum-times (a s) r _ ∙ ap (λ x. a s * x) (adds (after k m))
+premiums-span r a O P adds s k m = sum-times (a s) r _ ∙ ap (λ x. a s * x) (adds (countAfter k m))

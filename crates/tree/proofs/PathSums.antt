@@ -1,5 +1,4 @@
 -- Laws of the sums over lists of moves: the first move, sums and multiples, the total chance, and the exact value by its first move.
--- Assumes nothing.
 use Prim.Native.Nat.{ℕ, zero, suc, _+_, _-_, _*_, _^_, _≤_, _<_}
 use native.Mathlib.Nat.{mul-assoc, mul-add, add-mul, mul-left-comm, add-sub-of-le, mul-one, one-mul, pow-suc, pow-succ', pow-zero, zero-mul, mul-le-mul-left, eq-or-lt-of-le}
 use mathlib.Core.Path.{_≡_, refl, sym, _∙_, ap, ap₂, fun-ext}
@@ -10,7 +9,7 @@ use native.Mathlib.Omega.{arith}
 use lib.ListN.{length}
 use lib.Dec.{leb, T, le→leb}
 use Rattle.cash.specs.Units.{B}
-use Rattle.tree.specs.Paths.{Move, survive, default, after, Cash, Tree, Fair, chance, allMoves, keeps, those, paths, weight, paid, total, pathSum, exact}
+use Rattle.tree.specs.Paths.{Move, survive, default, countAfter, Cash, Tree, Fair, chance, allMoves, keeps, those, paths, weight, paid, total, pathSum, exact}
 
 -- ---- sums over lists
 
@@ -63,15 +62,15 @@ those-none (ms ∷ l) = those-none l
 
 -- the lists that begin with the move m, of which the rest is a list from the count after m
 begin : (n k : ℕ) (m : Move) (f : List Move → ℕ) (l : List (List Move)) →
-    total f (those (keeps n k) (map (λ ms. m ∷ ms) l)) ≡ cond (leb (after k m) n) (total (λ ms. f (m ∷ ms)) (those (keeps n (after k m)) l)) 0
+    total f (those (keeps n k) (map (λ ms. m ∷ ms) l)) ≡ cond (leb (countAfter k m) n) (total (λ ms. f (m ∷ ms)) (those (keeps n (countAfter k m)) l)) 0
 unfolding keeps total
 begin n k m f l =
     ap (total f) (those-map (keeps n k) (λ ms. m ∷ ms) l)
     ∙ total-map f (λ ms. m ∷ ms) (those (λ ms. keeps n k (m ∷ ms)) l)
-    ∙ go (leb (after k m) n)
+    ∙ go (leb (countAfter k m) n)
   where
     go : (b : Bool) →
-        total (λ ms. f (m ∷ ms)) (those (λ ms. b && keeps n (after k m) ms) l) ≡ cond b (total (λ ms. f (m ∷ ms)) (those (keeps n (after k m)) l)) 0
+        total (λ ms. f (m ∷ ms)) (those (λ ms. b && keeps n (countAfter k m) ms) l) ≡ cond b (total (λ ms. f (m ∷ ms)) (those (keeps n (countAfter k m)) l)) 0
     go true = refl
     go false = ap (total (λ ms. f (m ∷ ms))) (those-none l)
 
@@ -105,14 +104,14 @@ guarded true c x h = refl
 guarded false c x (inr e) = omega (arith, ap (λ y. y * x) e)
 
 -- the lists that begin with m: the chance of m, times the sum over the lists that follow
-first : (t : Tree) (f : List Move → ℕ) (h i k : ℕ) (m : Move) → T (leb (after k m) (t .names)) ⊎ (chance t (suc i) k m ≡ 0) →
+first : (t : Tree) (f : List Move → ℕ) (h i k : ℕ) (m : Move) → T (leb (countAfter k m) (t .names)) ⊎ (chance t (suc i) k m ≡ 0) →
     total (λ ms. weight t i k ms * f ms) (those (keeps (t .names) k) (map (λ ms. m ∷ ms) (allMoves h)))
-    ≡ chance t (suc i) k m * pathSum t (λ ms. f (m ∷ ms)) h (suc i) (after k m)
+    ≡ chance t (suc i) k m * pathSum t (λ ms. f (m ∷ ms)) h (suc i) (countAfter k m)
 unfolding weight pathSum paths
 first t f h i k m g =
     begin (t .names) k m (λ ms. weight t i k ms * f ms) (allMoves h)
-    ∙ ap (λ x. cond (leb (after k m) (t .names)) x 0) (simp (mul-assoc, total-times))
-    ∙ guarded (leb (after k m) (t .names)) _ _ g
+    ∙ ap (λ x. cond (leb (countAfter k m) (t .names)) x 0) (simp (mul-assoc, total-times))
+    ∙ guarded (leb (countAfter k m) (t .names)) _ _ g
 
 -- the sum over the lists of one move more, by the first move
 pub path-sum-step : (t : Tree) → Fair t → (f : List Move → ℕ) (h i k : ℕ) → k ≤ t .names →
@@ -185,7 +184,7 @@ paid-back : (t : Tree) (u : Cash) (d i k : ℕ) (ms : List Move) → paid t u d 
 unfolding paid
 paid-back t u d i k [] = omega arith
 paid-back t u d i k (m ∷ ms) =
-    rw (paid-back t u (d * t .discount (suc i)) (suc i) (after k m) ms, paid-back t u (1 * t .discount (suc i)) (suc i) (after k m) ms) (omega arith)
+    rw (paid-back t u (d * t .discount (suc i)) (suc i) (countAfter k m) ms, paid-back t u (1 * t .discount (suc i)) (suc i) (countAfter k m) ms) (omega arith)
 
 twice : (h : ℕ) → 2 * suc h ≡ suc (suc (2 * h))
 twice h = omega arith
@@ -195,17 +194,17 @@ powers zero = simp pow-zero
 powers (suc h) = rw twice (simp pow-suc (omega (arith, ap (λ x. x * (B * B)) (powers h))))
 
 -- the cash of the lists that begin with m
-branch : (t : Tree) → Fair t → (u : Cash) (h i k : ℕ) (m : Move) → after k m ≤ t .names →
-    pathSum t (λ ms. paid t u 1 i k (m ∷ ms)) h (suc i) (after k m)
-    ≡ t .discount (suc i) * (exact t u h (suc i) (after k m) + u (suc i) k m * B ^ (2 * h))
+branch : (t : Tree) → Fair t → (u : Cash) (h i k : ℕ) (m : Move) → countAfter k m ≤ t .names →
+    pathSum t (λ ms. paid t u 1 i k (m ∷ ms)) h (suc i) (countAfter k m)
+    ≡ t .discount (suc i) * (exact t u h (suc i) (countAfter k m) + u (suc i) k m * B ^ (2 * h))
 unfolding paid exact
 branch t fair u h i k m l =
-    ap (λ F. pathSum t F h (suc i) (after k m)) (fun-ext (λ ms. ap (λ x. 1 * v * c * B ^ length ms + x) (paid-back t u (1 * v) (suc i) (after k m) ms)))
-    ∙ path-sum-add t (λ ms. 1 * v * c * B ^ length ms) (λ ms. 1 * v * paid t u 1 (suc i) (after k m) ms) h (suc i) (after k m)
+    ap (λ F. pathSum t F h (suc i) (countAfter k m)) (fun-ext (λ ms. ap (λ x. 1 * v * c * B ^ length ms + x) (paid-back t u (1 * v) (suc i) (countAfter k m) ms)))
+    ∙ path-sum-add t (λ ms. 1 * v * c * B ^ length ms) (λ ms. 1 * v * paid t u 1 (suc i) (countAfter k m) ms) h (suc i) (countAfter k m)
     ∙ ap₂ (λ x y. x + y)
-    (path-sum-times t (1 * v * c) (λ ms. B ^ length ms) h (suc i) (after k m)
-    ∙ ap (λ x. 1 * v * c * x) (chances t fair B h (suc i) (after k m) l ∙ powers h))
-    (path-sum-times t (1 * v) (paid t u 1 (suc i) (after k m)) h (suc i) (after k m))
+    (path-sum-times t (1 * v * c) (λ ms. B ^ length ms) h (suc i) (countAfter k m)
+    ∙ ap (λ x. 1 * v * c * x) (chances t fair B h (suc i) (countAfter k m) l ∙ powers h))
+    (path-sum-times t (1 * v) (paid t u 1 (suc i) (countAfter k m)) h (suc i) (countAfter k m))
     ∙ omega arith
   where
     v : ℕ

@@ -1,4 +1,4 @@
--- Facts of a sheet within limits: its tree, its losses, its legs, and the ceilings that its rows keep to. Assumes nothing.
+-- Facts of a sheet within limits: its tree, its losses, its legs, and the ceilings that its rows keep to.
 use Prim.Native.Nat.{ℕ, zero, suc, _+_, _-_, _*_, _≤_, _<_, zero-le}
 use native.Mathlib.Nat.{le-refl, add-zero, suc-add, add-suc}
 use mathlib.Core.Path.{_≡_, refl, sym, _∙_, ap}
@@ -12,10 +12,13 @@ use Rattle.cash.specs.Units.{B}
 use Rattle.cash.specs.Sums.{sumTo}
 use Rattle.cash.specs.Losses.{trancheLoss, trancheOutstanding}
 use Rattle.cash.proofs.Sums.{sum-cong}
-use Rattle.cash.proofs.Losses.{pool-loss-rises, pool-loss-most, pool-loss-none, tranche-loss-rises, tranche-loss-most, tranche-loss-none, losses-add, outstanding-falls, outstanding-most, outstandings-add, index-outstanding-falls, index-outstanding-most}
+use Rattle.cash.proofs.Losses.{pool-loss-rises, pool-loss-most, tranche-loss-rises, tranche-loss-most, losses-add, outstanding-falls, outstanding-most, outstandings-add, index-outstanding-falls, index-outstanding-most}
 use Rattle.tree.specs.Paths.{Fair}
 use Rattle.tree.specs.Backward.{backFrom, over, Agrees, legHalves}
-use Rattle.tree.specs.Sheet.{Sheet, Within, hazardOf, discountOf, accrualOf, poolLossOf, lossOf, widthOf, outstandingOf, treeOf, defaultOf, premiumOf, dates, sumOf, defaultMost, premiumMost, spanning}
+use Rattle.sheet.specs.Terms.{Terms, sumOf}
+use Rattle.tree.specs.Sheet.{hazardOf, discountOf, accrualOf, poolLossOf, lossOf, widthOf, outstandingOf, treeOf, defaultOf, premiumOf, dates, defaultMost, premiumMost, spanning}
+use Rattle.sheet.specs.Limits.{TranchesWithin, TermsWithin}
+use Rattle.sheet.proofs.Limits.{attachment-most, hazard-most, discount-most}
 use Rattle.tree.proofs.Additions.{Spans}
 use Rattle.tree.proofs.Legs.{default-agrees, premium-agrees, default-halves, defaults-span, premiums-span}
 use Rattle.tree.proofs.Ceilings.{default-ceiling, premium-ceiling}
@@ -32,57 +35,49 @@ choose-most false f g = g
 
 -- ---- the tree
 
-hazard-last : (x : Sheet) (s : ℕ) → hazardOf x s (x .names) ≡ 0
+hazard-last : (x : Terms) (s : ℕ) → hazardOf x s (x .names) ≡ 0
 unfolding hazardOf
 hazard-last x s = rw (le-ltb (x .names) (x .names) (le-refl _))
 
-hazard-sure : (x : Sheet) → Within x → (s k : ℕ) → hazardOf x s k ≤ B
+hazard-sure : (x : Terms) → TermsWithin x → (s k : ℕ) → hazardOf x s k ≤ B
 unfolding hazardOf
-hazard-sure x w s k = choose-most (ltb k (x .names)) (w .hazard-most k) zero-le
+hazard-sure x w s k = choose-most (ltb k (x .names)) (hazard-most x w k) zero-le
 
-pub fair-of : (x : Sheet) → Within x → Fair (treeOf x)
+pub fair-of : (x : Terms) → TermsWithin x → Fair (treeOf x)
 unfolding treeOf discountOf
-fair-of x w = record { last = hazard-last x; sure = hazard-sure x w; shrinks = λ s. w .discount-most _ }
+fair-of x w = record { last = hazard-last x; sure = hazard-sure x w; shrinks = λ s. discount-most x w _ }
 
 -- ---- losses and outstanding nominal, of a tranche or the index
 
-pool-rises : (x : Sheet) → Within x → (k : ℕ) → poolLossOf x k ≤ poolLossOf x (suc k)
+pool-rises : (x : Terms) → TranchesWithin x → (k : ℕ) → poolLossOf x k ≤ poolLossOf x (suc k)
 unfolding poolLossOf
-pool-rises x w k = pool-loss-rises (x .names) (x .recovery) k (w .some)
+pool-rises x w k = pool-loss-rises (x .names) (x .recovery) k (w .pool .names .0)
 
-pool-most : (x : Sheet) (k : ℕ) → k ≤ x .names → poolLossOf x k ≤ B - x .recovery
+pool-most : (x : Terms) (k : ℕ) → k ≤ x .names → poolLossOf x k ≤ B - x .recovery
 unfolding poolLossOf
 pool-most x k l = pool-loss-most (x .names) (x .recovery) k l
 
-pub loss-rises : (x : Sheet) → Within x → (j k : ℕ) → lossOf x j k ≤ lossOf x j (suc k)
+pub loss-rises : (x : Terms) → TranchesWithin x → (j k : ℕ) → lossOf x j k ≤ lossOf x j (suc k)
 unfolding lossOf
 loss-rises x w j k = choose-le (ltb j (x .tranches)) (tranche-loss-rises _ _ _ _ (pool-rises x w k)) (pool-rises x w k)
 
-pub loss-most : (x : Sheet) (j k : ℕ) → k ≤ x .names → lossOf x j k ≤ widthOf x j
+pub loss-most : (x : Terms) (j k : ℕ) → k ≤ x .names → lossOf x j k ≤ widthOf x j
 unfolding lossOf widthOf
 loss-most x j k l = choose-le (ltb j (x .tranches)) (tranche-loss-most _ _ _) (pool-most x k l)
 
-pub loss-none : (x : Sheet) (j : ℕ) → lossOf x j 0 ≡ 0
-unfolding lossOf poolLossOf
-loss-none x j = rw (pool-loss-none (x .names) (x .recovery)) (go (ltb j (x .tranches)))
-  where
-    go : (b : Bool) → cond b (trancheLoss (getD (x .attachments) j 0) (getD (x .attachments) (suc j) 0) 0) 0 ≡ 0
-    go true = tranche-loss-none _ _
-    go false = refl
-
-pub outstanding-less : (x : Sheet) → Within x → (j k : ℕ) → outstandingOf x j (suc k) ≤ outstandingOf x j k
+pub outstanding-less : (x : Terms) → TranchesWithin x → (j k : ℕ) → outstandingOf x j (suc k) ≤ outstandingOf x j k
 unfolding outstandingOf
-outstanding-less x w j k = choose-le (ltb j (x .tranches)) (outstanding-falls _ _ _ _ (pool-rises x w k)) (index-outstanding-falls (x .names) k (w .some))
+outstanding-less x w j k = choose-le (ltb j (x .tranches)) (outstanding-falls _ _ _ _ (pool-rises x w k)) (index-outstanding-falls (x .names) k (w .pool .names .0))
 
-pub outstanding-within : (x : Sheet) → Within x → (j k : ℕ) → outstandingOf x j k ≤ B
+pub outstanding-within : (x : Terms) → TranchesWithin x → (j k : ℕ) → outstandingOf x j k ≤ B
 unfolding outstandingOf
-outstanding-within x w j k = choose-most (ltb j (x .tranches)) (outstanding-most _ _ _ (w .attachment-most (suc j))) (index-outstanding-most (x .names) k)
+outstanding-within x w j k = choose-most (ltb j (x .tranches)) (outstanding-most _ _ _ (attachment-most x w (suc j))) (index-outstanding-most (x .names) k)
 
 -- ---- the tranches and the one that spans them
 
-losses-span : (x : Sheet) → Within x → (k : ℕ) → sumTo (x .tranches) (λ j. lossOf x j k) ≡ lossOf (spanning x) 0 k
+losses-span : (x : Terms) → TranchesWithin x → (k : ℕ) → sumTo (x .tranches) (λ j. lossOf x j k) ≡ lossOf (spanning x) 0 k
 losses-span x w k =
-    sum-cong (x .tranches) _ _ (λ j l. inside j l) ∙ losses-add (x .tranches) (λ j. getD (x .attachments) j 0) (w .attachments-rise) (poolLossOf x k) ∙ whole
+    sum-cong (x .tranches) _ _ (λ j l. inside j l) ∙ losses-add (x .tranches) (λ j. getD (x .attachments) j 0) (w .attachments .rise) (poolLossOf x k) ∙ whole
   where
     inside : (j : ℕ) → j < x .tranches → lossOf x j k ≡ trancheLoss (getD (x .attachments) j 0) (getD (x .attachments) (suc j) 0) (poolLossOf x k)
     inside j l = unfold lossOf in rw (lt-ltb j (x .tranches) l)
@@ -90,9 +85,9 @@ losses-span x w k =
     whole : trancheLoss (getD (x .attachments) 0 0) (getD (x .attachments) (x .tranches) 0) (poolLossOf x k) ≡ lossOf (spanning x) 0 k
     whole = unfold lossOf spanning poolLossOf in refl
 
-outstandings-span : (x : Sheet) → Within x → (k : ℕ) → sumTo (x .tranches) (λ j. outstandingOf x j k) ≡ outstandingOf (spanning x) 0 k
+outstandings-span : (x : Terms) → TranchesWithin x → (k : ℕ) → sumTo (x .tranches) (λ j. outstandingOf x j k) ≡ outstandingOf (spanning x) 0 k
 outstandings-span x w k =
-    sum-cong (x .tranches) _ _ (λ j l. inside j l) ∙ outstandings-add (x .tranches) (λ j. getD (x .attachments) j 0) (w .attachments-rise) (poolLossOf x k) ∙ whole
+    sum-cong (x .tranches) _ _ (λ j l. inside j l) ∙ outstandings-add (x .tranches) (λ j. getD (x .attachments) j 0) (w .attachments .rise) (poolLossOf x k) ∙ whole
   where
     inside : (j : ℕ) → j < x .tranches → outstandingOf x j k ≡ trancheOutstanding (getD (x .attachments) j 0) (getD (x .attachments) (suc j) 0) (poolLossOf x k)
     inside j l = unfold outstandingOf in rw (lt-ltb j (x .tranches) l)
@@ -102,37 +97,37 @@ outstandings-span x w k =
 
 -- ---- the legs
 
-pub default-agrees-of : (x : Sheet) (j : ℕ) → Agrees (defaultOf x j)
+pub default-agrees-of : (x : Terms) (j : ℕ) → Agrees (defaultOf x j)
 unfolding defaultOf
 default-agrees-of x j = default-agrees (lossOf x j)
 
-pub premium-agrees-of : (x : Sheet) (j : ℕ) → Agrees (premiumOf x j)
+pub premium-agrees-of : (x : Terms) (j : ℕ) → Agrees (premiumOf x j)
 unfolding premiumOf
 premium-agrees-of x j = premium-agrees (accrualOf x) (outstandingOf x j)
 
-pub default-halves-of : (x : Sheet) (j h i : ℕ) → legHalves (defaultOf x j) h i ≡ 2 * h
+pub default-halves-of : (x : Terms) (j h i : ℕ) → legHalves (defaultOf x j) h i ≡ 2 * h
 unfolding defaultOf
 default-halves-of x j h i = default-halves (lossOf x j) h i
 
-pub premium-halves-of : (x : Sheet) (j h i : ℕ) → legHalves (premiumOf x j) h i ≡ 2 * h + dates x h i
+pub premium-halves-of : (x : Terms) (j h i : ℕ) → legHalves (premiumOf x j) h i ≡ 2 * h + dates x h i
 unfolding legHalves premiumOf dates
 premium-halves-of x j h i = refl
 
-pub defaults-spanned : (x : Sheet) → Within x → Spans (x .tranches) (defaultOf x) (defaultOf (spanning x) 0)
+pub defaults-spanned : (x : Terms) → TranchesWithin x → Spans (x .tranches) (defaultOf x) (defaultOf (spanning x) 0)
 unfolding defaultOf
 defaults-spanned x w = defaults-span (x .tranches) (lossOf x) (lossOf (spanning x) 0) (losses-span x w) (loss-rises x w)
 
-pub premiums-spanned : (x : Sheet) → Within x → Spans (x .tranches) (premiumOf x) (premiumOf (spanning x) 0)
+pub premiums-spanned : (x : Terms) → TranchesWithin x → Spans (x .tranches) (premiumOf x) (premiumOf (spanning x) 0)
 unfolding premiumOf spanning accrualOf
 premiums-spanned x w = premiums-span (x .tranches) (accrualOf x) (outstandingOf x) (outstandingOf (spanning x) 0) (outstandings-span x w)
 
 -- ---- ceilings of rows that start from any row within its own
 
 -- the default leg of a row that stands h steps on
-pub default-keeps : (x : Sheet) → Within x → (j : ℕ) (q : ℕ → ℕ) → ((k : ℕ) → k ≤ x .names → q k ≤ defaultMost x j k) →
+pub default-keeps : (x : Terms) → TermsWithin x → (j : ℕ) (q : ℕ → ℕ) → ((k : ℕ) → k ≤ x .names → q k ≤ defaultMost x j k) →
     (h i k : ℕ) → k ≤ x .names → backFrom (treeOf x) (defaultOf x j .rounded) q h i k ≤ defaultMost x j k
 unfolding treeOf defaultOf defaultMost
-default-keeps x w j q starts = default-ceiling (treeOf x) (fair-of x w) (lossOf x j) q (widthOf x j) (loss-rises x w j) (loss-most x j) starts
+default-keeps x w j q starts = default-ceiling (treeOf x) (fair-of x w) (lossOf x j) q (widthOf x j) (loss-rises x (w .tranches) j) (loss-most x j) starts
 
 sum-drop : (l : List ℕ) (i : ℕ) → sumOf (drop i l) ≡ getD l i 0 + sumOf (drop (suc i) l)
 unfolding sumOf
@@ -142,15 +137,15 @@ sum-drop (a ∷ l) zero = refl
 sum-drop (a ∷ l) (suc i) = sum-drop l i
 
 -- the accruals after step i: those of the next h steps, and those after
-pub accruals-after : (x : Sheet) (h i : ℕ) → over (accrualOf x) h i + sumOf (drop (i + h) (x .accruals)) ≡ sumOf (drop i (x .accruals))
+pub accruals-after : (x : Terms) (h i : ℕ) → over (accrualOf x) h i + sumOf (drop (i + h) (x .accruals)) ≡ sumOf (drop i (x .accruals))
 unfolding over accrualOf
 accruals-after x zero i = rw add-zero (omega arith)
 accruals-after x (suc h) i =
     omega (arith, sum-drop (x .accruals) i, accruals-after x h (suc i), ap (λ n. sumOf (drop n (x .accruals))) (suc-add i h ∙ sym (add-suc i h)))
 
 -- the premium leg of a row that stands at step i + h
-pub premium-keeps : (x : Sheet) → Within x → (j : ℕ) (q : ℕ → ℕ) (h i : ℕ) → ((k : ℕ) → k ≤ x .names → q k ≤ premiumMost x (i + h) k) →
+pub premium-keeps : (x : Terms) → TermsWithin x → (j : ℕ) (q : ℕ → ℕ) (h i : ℕ) → ((k : ℕ) → k ≤ x .names → q k ≤ premiumMost x (i + h) k) →
     (k : ℕ) → k ≤ x .names → backFrom (treeOf x) (premiumOf x j .rounded) q h i k ≤ premiumMost x i k
 unfolding treeOf premiumOf premiumMost
 premium-keeps x w j q h i starts k l =
-    omega (arith, accruals-after x h i, premium-ceiling (treeOf x) (fair-of x w) (accrualOf x) (outstandingOf x j) q _ (λ k l. outstanding-within x w j k) starts h i k l)
+    omega (arith, accruals-after x h i, premium-ceiling (treeOf x) (fair-of x w) (accrualOf x) (outstandingOf x j) q _ (λ k l. outstanding-within x (w .tranches) j k) starts h i k l)

@@ -1,4 +1,4 @@
--- The statements of specs/Statements.antt, proved. Assumes nothing.
+-- The statements of specs/Statements.antt, proved.
 use Prim.Native.Nat.{ℕ, _+_, _*_, zero-le}
 use native.Mathlib.Nat.{le-of-eq}
 use mathlib.Core.Path.{_≡_, refl}
@@ -6,8 +6,10 @@ use native.Mathlib.Omega.{arith}
 use Rattle.cash.proofs.Nearness.{near-as, near-halve}
 use Rattle.tree.specs.Paths.{Tree, Fair}
 use Rattle.tree.specs.Backward.{back, legValue, legHalves}
-use Rattle.tree.specs.Sheet.{Sheet, Within, hazardOf, discountOf, lossOf, accrualOf, outstandingOf, treeOf, defaultOf, premiumOf, D, A, exactD, exactA, dates, spanning}
-use Rattle.tree.specs.Statements.{Certain, Distance, Additive, Ceilings, Jumps, Spread}
+use Rattle.sheet.specs.Terms.{Terms}
+use Rattle.tree.specs.Sheet.{hazardOf, discountOf, lossOf, accrualOf, outstandingOf, treeOf, defaultOf, premiumOf, D, A, exactD, exactA, dates, spanning}
+use Rattle.sheet.specs.Limits.{TermsWithin}
+use Rattle.tree.specs.Statements.{Certain, Distance, Additive, Ceilings, Jumps, DistributionBounds}
 use Rattle.tree.proofs.PathSums.{total-chance}
 use Rattle.tree.proofs.Distances.{leg-distance}
 use Rattle.tree.proofs.Additions.{legs-exact, legs-add, legs-alike}
@@ -18,7 +20,7 @@ use Rattle.tree.proofs.Forward.{distribution-total, distribution-errors
 pub certain : (t : Tree) → Fair t → Certain t
 certain t fair = total-chance t fair
 
-pub distance : (x : Sheet) → Within x → Distance x
+pub distance : (x : Terms) → TermsWithin x → Distance x
 unfolding D A exactD exactA treeOf
 distance x w =
     record {
@@ -28,20 +30,20 @@ distance x w =
           λ j h i k l. near-as (leg-distance (treeOf x) (fair-of x w) (premiumOf x j) (premium-agrees-of x j) h i k l) (rw (premium-halves-of x j h i) (omega arith)) refl refl;
     }
 
-pub additive : (x : Sheet) → Within x → Additive x
+pub additive : (x : Terms) → TermsWithin x → Additive x
 unfolding D A exactD exactA spanning treeOf hazardOf discountOf
 additive x w =
     record {
-      default-exact = legs-exact (treeOf x) (x .tranches) (defaultOf x) (defaultOf (spanning x) 0) (defaults-spanned x w);
-      premium-exact = legs-exact (treeOf x) (x .tranches) (premiumOf x) (premiumOf (spanning x) 0) (premiums-spanned x w);
+      default-exact = legs-exact (treeOf x) (x .tranches) (defaultOf x) (defaultOf (spanning x) 0) (defaults-spanned x (w .tranches));
+      premium-exact = legs-exact (treeOf x) (x .tranches) (premiumOf x) (premiumOf (spanning x) 0) (premiums-spanned x (w .tranches));
       default =
           λ h i k l. near-halve (near-as
-          (legs-add (treeOf x) (fair-of x w) (x .tranches) (defaultOf x) (defaultOf (spanning x) 0) (default-agrees-of x) (default-agrees-of (spanning x) 0) (defaults-spanned x w) h i k l)
+          (legs-add (treeOf x) (fair-of x w) (x .tranches) (defaultOf x) (defaultOf (spanning x) 0) (default-agrees-of x) (default-agrees-of (spanning x) 0) (defaults-spanned x (w .tranches)) h i k l)
           (omega (arith, legs-alike (x .tranches) (2 * h) (defaultOf x) (defaultOf (spanning x) 0) h i (λ j below. default-halves-of x j h i) (default-halves-of (spanning x) 0 h i)))
           refl refl);
       premium =
           λ h i k l. near-as
-          (legs-add (treeOf x) (fair-of x w) (x .tranches) (premiumOf x) (premiumOf (spanning x) 0) (premium-agrees-of x) (premium-agrees-of (spanning x) 0) (premiums-spanned x w) h i k l)
+          (legs-add (treeOf x) (fair-of x w) (x .tranches) (premiumOf x) (premiumOf (spanning x) 0) (premium-agrees-of x) (premium-agrees-of (spanning x) 0) (premiums-spanned x (w .tranches)) h i k l)
           (le-of-eq (legs-alike (x .tranches) (2 * h + dates x h i) (premiumOf x) (premiumOf (spanning x) 0) h i (λ j below. premium-halves-of x j h i) (same-dates h i)))
           refl refl;
     }
@@ -49,7 +51,7 @@ additive x w =
     same-dates : (h i : ℕ) → legHalves (premiumOf (spanning x) 0) h i ≡ 2 * h + dates x h i
     same-dates h i = unfold dates accrualOf in premium-halves-of (spanning x) 0 h i
 
-pub ceilings : (x : Sheet) → Within x → Ceilings x
+pub ceilings : (x : Terms) → TermsWithin x → Ceilings x
 unfolding D A legValue back
 ceilings x w =
     record {
@@ -57,17 +59,17 @@ ceilings x w =
       premium = λ j h i k e l. premium-keeps x w j (λ k. 0) h i (λ k l. zero-le) k l;
     }
 
-pub jumps : (x : Sheet) → Within x → Jumps x
+pub jumps : (x : Terms) → TermsWithin x → Jumps x
 unfolding D A legValue back treeOf defaultOf premiumOf
 jumps x w =
     record {
       default = λ j. default-jump (treeOf x) (fair-of x w) (lossOf x j) (λ k. 0) (λ k l. zero-le);
-      premium = λ j. premium-jump (treeOf x) (fair-of x w) (accrualOf x) (outstandingOf x j) (λ k. 0) (outstanding-less x w j) (λ k l. zero-le);
+      premium = λ j. premium-jump (treeOf x) (fair-of x w) (accrualOf x) (outstandingOf x j) (λ k. 0) (outstanding-less x (w .tranches) j) (λ k l. zero-le);
     }
 
-pub spread : (x : Sheet) → Within x → Spread x
+pub distribution-bounds : (x : Terms) → TermsWithin x → DistributionBounds x
 unfolding treeOf
-spread x w =
+distribution-bounds x w =
     record {
       whole = distribution-total (treeOf x) (fair-of x w);
       error = distribution-errors (treeOf x) (fair-of x w);

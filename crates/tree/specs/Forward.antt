@@ -5,15 +5,15 @@ use mathlib.Core.List.{List, [], _∷_}
 use lib.Dec.{eqb}
 use Rattle.cash.specs.Units.{B, half}
 use Rattle.cash.specs.Sums.{sumTo}
-use Rattle.tree.specs.Paths.{Move, after, Tree, pathSum}
+use Rattle.tree.specs.Paths.{Move, countAfter, Tree, pathSum}
 
 -- 1 where two counts are the same, and else 0.
 unfoldable pub same : ℕ → ℕ → ℕ
 same x y = cond (eqb x y) 1 0
 
 -- What moves in step s from the count k of a row to the next count.
-unfoldable pub moved : Tree → ℕ → (ℕ → ℕ) → ℕ → ℕ
-moved t s q k = half (q k * t .hazard s k)
+unfoldable pub outflow : Tree → ℕ → (ℕ → ℕ) → ℕ → ℕ
+outflow t s q k = half (q k * t .hazard s k)
 
 -- What a count gets from the count below it.
 unfoldable pub fromBelow : (ℕ → ℕ) → ℕ → ℕ
@@ -22,7 +22,7 @@ fromBelow f (suc k) = f k
 
 -- The row after step s, every move taken from the row before it.
 unfoldable pub pushed : Tree → ℕ → (ℕ → ℕ) → ℕ → ℕ
-pushed t s q k = q k - moved t s q k + fromBelow (moved t s q) k
+pushed t s q k = q k - outflow t s q k + fromBelow (outflow t s q) k
 
 -- Q(k) after h steps: B at the count 0 and 0 elsewhere, then h steps.
 unfoldable pub distribution : Tree → ℕ → ℕ → ℕ
@@ -32,7 +32,7 @@ distribution t (suc h) k = pushed t (suc h) (distribution t h) k
 -- The count that a list of moves from the count k ends at.
 unfoldable pub lands : ℕ → List Move → ℕ
 lands k [] = k
-lands k (m ∷ ms) = lands (after k m) ms
+lands k (m ∷ ms) = lands (countAfter k m) ms
 
 -- The exact probability of x defaults after h steps: the weights of the lists of moves that end there, over B ^ h.
 unfoldable pub probability : Tree → ℕ → ℕ → ℕ

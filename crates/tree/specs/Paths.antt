@@ -12,9 +12,9 @@ pub data Move : Type 0 where
   survive default : Move
 
 -- The count of defaults after a move from the count k.
-abbrev pub after : ℕ → Move → ℕ
-after k survive = k
-after k default = suc k
+abbrev pub countAfter : ℕ → Move → ℕ
+countAfter k survive = k
+countAfter k default = suc k
 
 -- Cash by the step paid into, the count before the step, and the move.
 abbrev pub Cash : Type 0
@@ -45,7 +45,7 @@ allMoves (suc h) = map (λ ms. default ∷ ms) (allMoves h) ++ map (λ ms. survi
 -- Whether a list of moves from the count k keeps the count at n or below.
 unfoldable pub keeps : ℕ → ℕ → List Move → Bool
 keeps n k [] = true
-keeps n k (m ∷ ms) = leb (after k m) n && keeps n (after k m) ms
+keeps n k (m ∷ ms) = leb (countAfter k m) n && keeps n (countAfter k m) ms
 
 -- The lists for which a test holds.
 unfoldable pub those : (List Move → Bool) → List (List Move) → List (List Move)
@@ -59,14 +59,14 @@ paths n h k = those (keeps n k) (allMoves h)
 -- The product of the chances of a list of moves from the count k at step i: a number over B ^ length.
 unfoldable pub weight : Tree → ℕ → ℕ → List Move → ℕ
 weight t i k [] = 1
-weight t i k (m ∷ ms) = chance t (suc i) k m * weight t (suc i) (after k m) ms
+weight t i k (m ∷ ms) = chance t (suc i) k m * weight t (suc i) (countAfter k m) ms
 
 -- The cash of a list of moves from the count k at step i, each payment brought back by d and by the discounts of the steps from i + 1 to its own.
 -- Cash u is a number over B, and the sum a number over B ^ (length + 1), where d is 1.
 unfoldable pub paid : Tree → Cash → ℕ → ℕ → ℕ → List Move → ℕ
 paid t u d i k [] = 0
 paid t u d i k (m ∷ ms) =
-    d * t .discount (suc i) * u (suc i) k m * B ^ length ms + paid t u (d * t .discount (suc i)) (suc i) (after k m) ms
+    d * t .discount (suc i) * u (suc i) k m * B ^ length ms + paid t u (d * t .discount (suc i)) (suc i) (countAfter k m) ms
 
 -- The sum of f over some lists of moves.
 unfoldable pub total : (List Move → ℕ) → List (List Move) → ℕ

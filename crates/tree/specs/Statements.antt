@@ -6,7 +6,8 @@ use Rattle.cash.specs.Near.{Near}
 use Rattle.cash.specs.Sums.{sumTo}
 use Rattle.cash.specs.Losses.{defaultPayment}
 use Rattle.tree.specs.Paths.{Tree, pathSum}
-use Rattle.tree.specs.Sheet.{Sheet, treeOf, lossOf, D, A, exactD, exactA, dates, defaultMost, premiumMost, spanning}
+use Rattle.sheet.specs.Terms.{Terms}
+use Rattle.tree.specs.Sheet.{treeOf, lossOf, D, A, exactD, exactA, dates, defaultMost, premiumMost, spanning}
 use Rattle.tree.specs.Forward.{distribution, errors}
 
 -- The chances of all lists of h moves from a count add to certainty.
@@ -14,41 +15,42 @@ abbrev pub Certain : Tree → Type 0
 Certain t = (h i k : ℕ) → k ≤ t .names → pathSum t (λ ms. 1) h i k ≡ B ^ h
 
 -- D within h units of its exact value, and A within h + q / 2 (doubled, so that it is whole).
-pub record Distance (x : Sheet) : Type 0 where
+pub record Distance (x : Terms) : Type 0 where
   pub default : (j h i k : ℕ) → k ≤ x .names → Near (h * B ^ (2 * h + 1)) (D x j h i k * B ^ (2 * h + 1)) (exactD x j h i k)
   pub premium : (j h i k : ℕ) → k ≤ x .names →
       Near ((2 * h + dates x h i) * B ^ (2 * h + 1)) (2 * (A x j h i k * B ^ (2 * h + 1))) (2 * exactA x j h i k)
 
 -- The tranches add to the one that spans them within r + 1 times the distance, by the rounded rule at one node (A doubled).
-abbrev pub DefaultsAdd : Sheet → ℕ → ℕ → ℕ → Type 0
+abbrev pub DefaultsAdd : Terms → ℕ → ℕ → ℕ → Type 0
 DefaultsAdd x h i k = Near ((x .tranches + 1) * h) (sumTo (x .tranches) (λ j. D x j h i k)) (D (spanning x) 0 h i k)
 
-abbrev pub PremiumsAdd : Sheet → ℕ → ℕ → ℕ → Type 0
+abbrev pub PremiumsAdd : Terms → ℕ → ℕ → ℕ → Type 0
 PremiumsAdd x h i k =
     Near ((x .tranches + 1) * (2 * h + dates x h i)) (2 * sumTo (x .tranches) (λ j. A x j h i k)) (2 * A (spanning x) 0 h i k)
 
 -- And exactly in their exact values.
-pub record Additive (x : Sheet) : Type 0 where
+pub record Additive (x : Terms) : Type 0 where
   pub default-exact : (h i k : ℕ) → sumTo (x .tranches) (λ j. exactD x j h i k) ≡ exactD (spanning x) 0 h i k
   pub premium-exact : (h i k : ℕ) → sumTo (x .tranches) (λ j. exactA x j h i k) ≡ exactA (spanning x) 0 h i k
   pub default : (h i k : ℕ) → k ≤ x .names → DefaultsAdd x h i k
   pub premium : (h i k : ℕ) → k ≤ x .names → PremiumsAdd x h i k
 
 -- Every node of a walk from the last step keeps to its ceilings.
-pub record Ceilings (x : Sheet) : Type 0 where
+pub record Ceilings (x : Terms) : Type 0 where
   pub default : (j h i k : ℕ) → i + h ≡ x .steps → k ≤ x .names → D x j h i k ≤ defaultMost x j k
   pub premium : (j h i k : ℕ) → i + h ≡ x .steps → k ≤ x .names → A x j h i k ≤ premiumMost x i k
 
--- A default never lowers the default leg by more than it pays, and never raises the premium leg. So no jump on walked rows is negative. ('Hedge ratio')
-pub record Jumps (x : Sheet) : Type 0 where
+-- A default never lowers the default leg by more than it pays, and never raises the premium leg.
+-- So no jump on walked rows is negative. ('Hedge ratio')
+pub record Jumps (x : Terms) : Type 0 where
   pub default : (j h i k : ℕ) → k < x .names → D x j h i k ≤ defaultPayment (lossOf x j k) (lossOf x j (suc k)) + D x j h i (suc k)
   pub premium : (j h i k : ℕ) → k < x .names → A x j h i (suc k) ≤ A x j h i k
 
 -- Its errors total at most n × i units after i steps. ('Going forward', as below)
-abbrev pub ErrorsWithin : Sheet → ℕ → Type 0
+abbrev pub ErrorsWithin : Terms → ℕ → Type 0
 ErrorsWithin x i = errors (treeOf x) i ≤ x .names * i * B ^ i
 
 -- The distribution always totals B.
-pub record Spread (x : Sheet) : Type 0 where
+pub record DistributionBounds (x : Terms) : Type 0 where
   pub whole : (i : ℕ) → sumTo (suc (x .names)) (distribution (treeOf x) i) ≡ B
   pub error : (i : ℕ) → ErrorsWithin x i

@@ -3,12 +3,13 @@ use Prim.Native.Nat.{_*_, _^_}
 use mathlib.Core.Path.{_≡_}
 use mathlib.Core.List.{[], _∷_}
 use Rattle.cash.specs.Units.{B, half}
-use Rattle.tree.specs.Sheet.{Sheet, treeOf, poolLossOf, outstandingOf, D, A, exactD, exactA}
+use Rattle.sheet.specs.Terms.{Terms}
+use Rattle.tree.specs.Sheet.{treeOf, poolLossOf, outstandingOf, D, A, exactD, exactA}
 use Rattle.tree.specs.Forward.{distribution, probability}
 use Rattle.tree.specs.Statements.{DefaultsAdd, PremiumsAdd, ErrorsWithin}
 
 -- The pool of 125 with two tranches. What is outstanding rests on no hazard, discount or accrual.
-abbrev pub wide : Sheet
+abbrev pub wide : Terms
 wide =
     record {
       names = 125;
@@ -22,7 +23,7 @@ wide =
     }
 
 -- The deck of document 01.
-abbrev pub worked : Sheet
+abbrev pub worked : Terms
 worked =
     record {
       names = 2;
@@ -36,8 +37,8 @@ worked =
     }
 
 -- A pool of three, in which little divides.
-abbrev pub uneven : Sheet
-uneven =
+abbrev pub unevenPool : Terms
+unevenPool =
     record {
       names = 3;
       steps = 2;
@@ -50,7 +51,7 @@ uneven =
     }
 
 -- Eight tranches of one unit, each leg of each worth half a unit or less and rounded up to 1.
-abbrev pub units : Sheet
+abbrev pub units : Terms
 units =
     record {
       names = 1;
@@ -64,7 +65,7 @@ units =
     }
 
 -- Two names whose distribution gathers more than a unit of errors a step.
-abbrev pub drifting : Sheet
+abbrev pub drifting : Terms
 drifting =
     record {
       names = 2;
@@ -97,7 +98,8 @@ pub record Starred : Type 0 where
   pub row-at-1 : distribution (treeOf worked) 2 1 ≡ 170_000_000
   pub row-at-2 : distribution (treeOf worked) 2 2 ≡ 20_000_000
 
--- The exact values of the deck, over B ^ 5, and its exact probabilities, over B ^ 2: all are whole units. Beside them the uneven pool's index, whose are not.
+-- The exact values of the deck, over B ^ 5, and its exact probabilities, over B ^ 2: all are whole units.
+-- Beside them the uneven pool's index, whose are not.
 pub record Exactly : Type 0 where
   pub tranche-default : exactD worked 0 2 0 0 ≡ 54_300_000 * B ^ 5
   pub tranche-premium : exactA worked 0 2 0 0 ≡ 218_700_000 * B ^ 5
@@ -106,24 +108,24 @@ pub record Exactly : Type 0 where
   pub chance-of-0 : probability (treeOf worked) 2 0 ≡ 810_000_000 * B
   pub chance-of-1 : probability (treeOf worked) 2 1 ≡ 170_000_000 * B
   pub chance-of-2 : probability (treeOf worked) 2 2 ≡ 20_000_000 * B
-  pub uneven-default : exactD uneven 1 2 0 0 ≡ 55_084_334_121_420_493_856_152_191_186_177_138_024_252_270_000_000_000
-  pub uneven-premium : exactA uneven 1 2 0 0 ≡ 459_568_457_328_791_438_426_523_785_777_573_023_111_398_850_980_000_000
+  pub uneven-default : exactD unevenPool 1 2 0 0 ≡ 55_084_334_121_420_493_856_152_191_186_177_138_024_252_270_000_000_000
+  pub uneven-premium : exactA unevenPool 1 2 0 0 ≡ 459_568_457_328_791_438_426_523_785_777_573_023_111_398_850_980_000_000
 
 -- The uneven pool: a loss is rounded down, and what is outstanding of the index up.
 -- One rounding in place of two would end the four node values in 4, 2, 2 and 2.
 pub record Roundings : Type 0 where
-  pub loss-at-1 : poolLossOf uneven 1 ≡ 216_666_666
-  pub loss-at-2 : poolLossOf uneven 2 ≡ 433_333_333
-  pub index-at-1 : outstandingOf uneven 1 1 ≡ 666_666_667
-  pub index-at-2 : outstandingOf uneven 1 2 ≡ 333_333_334
-  pub premium-after-1 : A uneven 0 1 1 0 ≡ 67_510_883
-  pub premium-after-2 : A uneven 0 2 0 0 ≡ 127_836_600
-  pub default-after-1 : D uneven 1 1 1 2 ≡ 73_140_253
-  pub default-after-2 : D uneven 1 2 0 2 ≡ 121_238_823
-  pub index-premium : A uneven 1 2 0 0 ≡ 459_568_458
-  pub row-at-0 : distribution (treeOf uneven) 2 0 ≡ 768_328_001
-  pub row-at-1 : distribution (treeOf uneven) 2 1 ≡ 202_713_000
-  pub row-at-2 : distribution (treeOf uneven) 2 2 ≡ 28_958_999
+  pub loss-at-1 : poolLossOf unevenPool 1 ≡ 216_666_666
+  pub loss-at-2 : poolLossOf unevenPool 2 ≡ 433_333_333
+  pub index-at-1 : outstandingOf unevenPool 1 1 ≡ 666_666_667
+  pub index-at-2 : outstandingOf unevenPool 1 2 ≡ 333_333_334
+  pub premium-after-1 : A unevenPool 0 1 1 0 ≡ 67_510_883
+  pub premium-after-2 : A unevenPool 0 2 0 0 ≡ 127_836_600
+  pub default-after-1 : D unevenPool 1 1 1 2 ≡ 73_140_253
+  pub default-after-2 : D unevenPool 1 2 0 2 ≡ 121_238_823
+  pub index-premium : A unevenPool 1 2 0 0 ≡ 459_568_458
+  pub row-at-0 : distribution (treeOf unevenPool) 2 0 ≡ 768_328_001
+  pub row-at-1 : distribution (treeOf unevenPool) 2 1 ≡ 202_713_000
+  pub row-at-2 : distribution (treeOf unevenPool) 2 2 ≡ 28_958_999
 
 -- What is owed between tranches, and of a distribution, where less would be false: the D of the eight units add to 8 and their A to 8,
 -- beside 4 and 2 of the one that spans them, and the errors of three steps total 3.3 units.

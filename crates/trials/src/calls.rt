@@ -2,18 +2,8 @@
 use crate::at;
 use crate::at::Trial;
 use crate::print;
-use export::Pool;
-use export::Walk;
-
-fn pool(trial: Trial) -> Pool {
-    Pool {
-        names: at::size(trial, at::NAMES),
-        steps: at::size(trial, at::STEPS),
-        tranches: at::size(trial, at::TRANCHES),
-        recovery: trial[at::RECOVERY],
-        number: 7,
-    }
-}
+use sheet::Sheet;
+use walk::Walk;
 
 fn fresh() -> Walk {
     Walk {
@@ -41,23 +31,16 @@ fn holding(trial: Trial, walk: Walk) -> Trial {
 
 fn ratio(
     trial: Trial,
-    attachments: &[u64],
-    hazards: &[u64],
-    discounts: &[u64],
-    accruals: &[u64],
-    coupons: &[u64],
+    sheet: Sheet,
+    numbers: &[u64],
     register: &[u8],
     defaults: &[u64],
     premiums: &[u64],
 ) {
     let r = export::lavroudem_hedge_ratio(
         held(trial),
-        pool(trial),
-        attachments,
-        hazards,
-        discounts,
-        accruals,
-        coupons,
+        sheet,
+        numbers,
         register,
         defaults,
         premiums,
@@ -69,23 +52,16 @@ fn ratio(
 
 fn value(
     trial: Trial,
-    attachments: &[u64],
-    hazards: &[u64],
-    discounts: &[u64],
-    accruals: &[u64],
-    coupons: &[u64],
+    sheet: Sheet,
+    numbers: &[u64],
     register: &[u8],
     defaults: &[u64],
     premiums: &[u64],
 ) {
     let r = export::lavroudem_value(
         held(trial),
-        pool(trial),
-        attachments,
-        hazards,
-        discounts,
-        accruals,
-        coupons,
+        sheet,
+        numbers,
         register,
         defaults,
         premiums,
@@ -95,11 +71,8 @@ fn value(
     print::valued(r);
     ratio(
         holding(trial, r.walk),
-        attachments,
-        hazards,
-        discounts,
-        accruals,
-        coupons,
+        sheet,
+        numbers,
         register,
         defaults,
         premiums,
@@ -108,23 +81,16 @@ fn value(
 
 fn back(
     trial: Trial,
-    attachments: &[u64],
-    hazards: &[u64],
-    discounts: &[u64],
-    accruals: &[u64],
-    coupons: &[u64],
+    sheet: Sheet,
+    numbers: &[u64],
     register: &[u8],
     defaults: &mut [u64],
     premiums: &mut [u64],
 ) {
     let r = export::lavroudem_back(
         held(trial),
-        pool(trial),
-        attachments,
-        hazards,
-        discounts,
-        accruals,
-        coupons,
+        sheet,
+        numbers,
         register,
         defaults,
         premiums,
@@ -133,11 +99,8 @@ fn back(
     print::moved(r);
     value(
         holding(trial, r.walk),
-        attachments,
-        hazards,
-        discounts,
-        accruals,
-        coupons,
+        sheet,
+        numbers,
         register,
         defaults,
         premiums,
@@ -146,35 +109,18 @@ fn back(
 
 fn open(
     trial: Trial,
-    attachments: &[u64],
-    hazards: &[u64],
-    discounts: &[u64],
-    accruals: &[u64],
-    coupons: &[u64],
+    sheet: Sheet,
+    numbers: &[u64],
     register: &[u8],
     defaults: &mut [u64],
     premiums: &mut [u64],
 ) {
-    let r = export::lavroudem_open(
-        fresh(),
-        pool(trial),
-        attachments,
-        hazards,
-        discounts,
-        accruals,
-        coupons,
-        register,
-        defaults,
-        premiums,
-    );
+    let r = export::lavroudem_open(fresh(), sheet, numbers, register, defaults, premiums);
     print::answer(b" open", r.number);
     back(
         holding(trial, r.walk),
-        attachments,
-        hazards,
-        discounts,
-        accruals,
-        coupons,
+        sheet,
+        numbers,
         register,
         defaults,
         premiums,
@@ -184,63 +130,27 @@ fn open(
 // Open unless the walk is made up, back, value and ratio.
 pub fn walk(
     trial: Trial,
-    attachments: &[u64],
-    hazards: &[u64],
-    discounts: &[u64],
-    accruals: &[u64],
-    coupons: &[u64],
+    sheet: Sheet,
+    numbers: &[u64],
     register: &[u8],
     defaults: &mut [u64],
     premiums: &mut [u64],
 ) {
     if trial[at::MADE_UP] == 1 {
-        back(
-            trial,
-            attachments,
-            hazards,
-            discounts,
-            accruals,
-            coupons,
-            register,
-            defaults,
-            premiums,
-        );
+        back(trial, sheet, numbers, register, defaults, premiums);
     } else {
-        open(
-            trial,
-            attachments,
-            hazards,
-            discounts,
-            accruals,
-            coupons,
-            register,
-            defaults,
-            premiums,
-        );
+        open(trial, sheet, numbers, register, defaults, premiums);
     }
 }
 
 // Forward, with Q(0), Q(1) and the last of the row.
-pub fn forward(
-    trial: Trial,
-    attachments: &[u64],
-    hazards: &[u64],
-    discounts: &[u64],
-    accruals: &[u64],
-    coupons: &[u64],
-    register: &[u8],
-    row: &mut [u64],
-) {
+pub fn forward(trial: Trial, sheet: Sheet, numbers: &[u64], register: &[u8], row: &mut [u64]) {
     let number = export::lavroudem_forward(
-        pool(trial),
-        attachments,
-        hazards,
-        discounts,
-        accruals,
-        coupons,
+        sheet,
+        numbers,
         register,
         row,
         at::size(trial, at::FORWARD),
     );
-    print::spread(number, row);
+    print::distribution(number, row);
 }

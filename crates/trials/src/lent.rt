@@ -4,41 +4,59 @@ use crate::at;
 use crate::at::Trial;
 use crate::calls;
 use crate::print;
+use sheet::Pool;
+use sheet::Sheet;
+use sheet::Span;
 
-// Room for the longest list of a sheet that is tried: the first figure, the third, and all others, by their places in the trial.
-fn list(trial: Trial, first: usize, third: usize, others: usize) -> [u64; 3652] {
-    let mut list = [at::read(trial, others); 3652];
-    list[0] = at::read(trial, first);
-    list[2] = at::read(trial, third);
-    list
+// Where the lists of a sheet stand among its numbers, each with room for the longest that is tried.
+const HAZARDS: usize = 11;
+
+const DISCOUNTS: usize = 139;
+
+const ACCRUALS: usize = 3791;
+
+const COUPONS: usize = 7443;
+
+const NUMBERS: usize = 7459;
+
+// Numbers from one place to another, each so much above the one before.
+fn fill(numbers: &mut [u64], from: usize, to: usize, first: u64, apart: u64) {
+    let mut number = first;
+    for i in from..to {
+        if numbers.len() <= i {
+            return;
+        }
+        numbers[i] = number;
+        number = std::num::wrapping_add_u64(number, apart);
+    }
+}
+
+// A list of a sheet: the first figure, the third, and all others, by their places in the trial.
+fn list(
+    numbers: &mut [u64],
+    trial: Trial,
+    from: usize,
+    to: usize,
+    first: usize,
+    third: usize,
+    others: usize,
+)
+    requires { ⌜ from ≤ 7459 ⌝ }
+{
+    fill(numbers, from, to, at::read(trial, others), 0);
+    fill(numbers, from, from + 1, at::read(trial, first), 0);
+    fill(numbers, from + 2, from + 3, at::read(trial, third), 0);
 }
 
 // The points after the third stand one apart, so that none of them can be moved.
-fn points(trial: Trial) -> [u64; 11] {
-    [
-        trial[at::LOWEST],
-        trial[at::MIDDLE],
-        trial[at::HIGHEST],
-        700_000_001,
-        700_000_002,
-        700_000_003,
-        700_000_004,
-        700_000_005,
-        700_000_006,
-        700_000_007,
-        700_000_008,
-    ]
+fn points(numbers: &mut [u64], trial: Trial) {
+    fill(numbers, 0, 1, trial[at::LOWEST], 0);
+    fill(numbers, 1, 2, trial[at::MIDDLE], 0);
+    fill(numbers, 2, 3, trial[at::HIGHEST], 0);
+    fill(numbers, 3, HAZARDS, 700_000_001, 1);
 }
 
-// The first so many of a list.
-fn part(list: &[u64], length: usize) -> &[u64] {
-    if list.len() <= length {
-        return list;
-    }
-    &list[..length]
-}
-
-// The same to be written.
+// The first so many numbers of a row, to be written.
 fn part_mut(list: &mut [u64], length: usize) -> &mut [u64] {
     if list.len() <= length {
         return list;
@@ -148,64 +166,100 @@ fn row_length(trial: Trial, told: usize) -> usize {
 }
 
 // The register and the rows.
-fn rows(
-    trial: Trial,
-    attachments: &[u64],
-    hazards: &[u64],
-    discounts: &[u64],
-    accruals: &[u64],
-    coupons: &[u64],
-) {
+fn rows(trial: Trial, sheet: Sheet, numbers: &[u64]) {
     let full = register(trial[at::BYTE]);
-    let book = bytes(&full, at::size(trial, at::REGISTER_LENT));
+    let bytes = bytes(&full, at::size(trial, at::REGISTER_LENT));
     let mut defaults = default_row(trial);
     let mut premiums = premium_row(trial);
     let mut counts = [7; 130];
     calls::walk(
         trial,
-        attachments,
-        hazards,
-        discounts,
-        accruals,
-        coupons,
-        book,
+        sheet,
+        numbers,
+        bytes,
         part_mut(&mut defaults, row_length(trial, at::DEFAULTS_LENT)),
         part_mut(&mut premiums, row_length(trial, at::PREMIUMS_LENT)),
     );
     calls::forward(
         trial,
-        attachments,
-        hazards,
-        discounts,
-        accruals,
-        coupons,
-        book,
+        sheet,
+        numbers,
+        bytes,
         part_mut(&mut counts, length(trial, at::ROW_LENT, at::NAMES, 1)),
     );
 }
 
-// The sheet's lists.
-pub fn sheet(trial: Trial) {
-    let attachments = points(trial);
-    let hazards = list(trial, at::HAZARD, at::THIRD_HAZARD, at::OTHER_HAZARDS);
-    let discounts = list(
+fn pool(trial: Trial) -> Pool {
+    Pool {
+        names: at::size(trial, at::NAMES),
+        steps: at::size(trial, at::STEPS),
+        tranches: at::size(trial, at::TRANCHES),
+        recovery: trial[at::RECOVERY],
+        number: 7,
+    }
+}
+
+// The list that stands at a place.
+fn span(trial: Trial, at: usize, told: usize, right: usize, more: u64) -> Span {
+    Span {
+        at,
+        length: length(trial, told, right, more),
+    }
+}
+
+// The numbers of the sheet's lists.
+fn lists(numbers: &mut [u64], trial: Trial) {
+    points(numbers, trial);
+    list(
+        numbers,
         trial,
+        HAZARDS,
+        DISCOUNTS,
+        at::HAZARD,
+        at::THIRD_HAZARD,
+        at::OTHER_HAZARDS,
+    );
+    list(
+        numbers,
+        trial,
+        DISCOUNTS,
+        ACCRUALS,
         at::DISCOUNT,
         at::OTHER_DISCOUNTS,
         at::OTHER_DISCOUNTS,
     );
-    let mut accruals = list(trial, at::ACCRUAL, at::THIRD_ACCRUAL, at::OTHER_ACCRUALS);
-    accruals[1] = 0;
-    let coupons = list(trial, at::COUPON, at::THIRD_COUPON, at::OTHER_COUPONS);
-    rows(
+    list(
+        numbers,
         trial,
-        part(
-            &attachments,
-            length(trial, at::ATTACHMENTS_LENT, at::TRANCHES, 1),
-        ),
-        part(&hazards, length(trial, at::HAZARDS_LENT, at::NAMES, 0)),
-        part(&discounts, length(trial, at::DISCOUNTS_LENT, at::STEPS, 0)),
-        part(&accruals, length(trial, at::ACCRUALS_LENT, at::STEPS, 0)),
-        part(&coupons, length(trial, at::COUPONS_LENT, at::TRANCHES, 1)),
+        ACCRUALS,
+        COUPONS,
+        at::ACCRUAL,
+        at::THIRD_ACCRUAL,
+        at::OTHER_ACCRUALS,
     );
+    fill(numbers, ACCRUALS + 1, ACCRUALS + 2, 0, 0);
+    list(
+        numbers,
+        trial,
+        COUPONS,
+        NUMBERS,
+        at::COUPON,
+        at::THIRD_COUPON,
+        at::OTHER_COUPONS,
+    );
+}
+
+// A sheet and its numbers.
+pub fn sheet(trial: Trial) {
+    let mut numbers = [0; NUMBERS];
+    lists(&mut numbers, trial);
+    let sheet = Sheet {
+        pool: pool(trial),
+        attachments: span(trial, 0, at::ATTACHMENTS_LENT, at::TRANCHES, 1),
+        hazards: span(trial, HAZARDS, at::HAZARDS_LENT, at::NAMES, 0),
+        discounts: span(trial, DISCOUNTS, at::DISCOUNTS_LENT, at::STEPS, 0),
+        accruals: span(trial, ACCRUALS, at::ACCRUALS_LENT, at::STEPS, 0),
+        coupons: span(trial, COUPONS, at::COUPONS_LENT, at::TRANCHES, 1),
+    };
+    rows(trial, sheet, &numbers);
 }

@@ -1,4 +1,5 @@
 // Words and numbers to standard output.
+use cash::magnitude;
 use export::Hedged;
 use export::Moved;
 use export::Valued;
@@ -22,15 +23,6 @@ pub fn signed(x: i64) {
         return;
     }
     count(size);
-}
-
-// x without its sign. The least i64 has no negation, but one more than it has.
-fn magnitude(x: i64) -> u64 {
-    if x < 0 {
-        (-(x + 1)) as u64 + 1
-    } else {
-        x as u64
-    }
 }
 
 // The byte that a number stands for.
@@ -72,7 +64,7 @@ pub fn hedged(r: Hedged) {
 }
 
 // Q(0), Q(1) and the last of the row.
-pub fn spread(number: u8, row: &[u64]) {
+pub fn distribution(number: u8, row: &[u64]) {
     answer(b" forward", number);
     if row.len() < 2 {
         return;

@@ -1,4 +1,4 @@
--- What every list of calls keeps, by the rules of the calls alone. Assumes nothing.
+-- What every list of calls keeps, by the rules of the calls alone.
 use Prim.Native.Nat.{ℕ, zero, suc, _+_, _-_, _≤_}
 use mathlib.Core.Path.{_≡_, refl, sym, _∙_, ap, subst}
 use mathlib.Core.Bool.{Bool, true, false, cond, _&&_, _||_, false≢true}
@@ -17,13 +17,14 @@ use Rattle.register.proofs.Masks.{both}
 use Rattle.sheet.specs.Brought.{Brought}
 use Rattle.sheet.specs.Limits.{Limits}
 use Rattle.walk.specs.declared.Walk.{Walk}
-use Rattle.walk.specs.Answers.{Rows, accepted}
-use Rattle.walk.specs.Does.{Entered, Moved, Walks, Issues, Withdraws, Opens, Backs, Values}
+use Rattle.rows.specs.Rows.{Rows}
+use Rattle.walk.specs.Answers.{accepted}
+use Rattle.walk.specs.CallRules.{RegisterResult, WalkResult, BackSteps, IssueRule, WithdrawRule, OpenRule, BackRule, ValueRule}
 use Rattle.walk.specs.Engine.{Engine}
-use Rattle.walk.specs.Lists.{Lent, same, other, lent, kept, Call, issue, withdraw, opening, back, value, State, entered, begun, went, turn, History, isSame, noted, after, told, nothing, Run, end, history}
+use Rattle.walk.specs.CallLists.{LentRows, ownRows, otherRows, rowsLent, rowsKept, Call, issue, withdraw, opening, back, value, State, afterWrite, afterOpen, afterWalkCall, callResult, History, isOwn, noted, stateAfter, historyAfter, noHistory, Run, end, history}
 use Rattle.walk.specs.Promise.{Rules}
-use Rattle.walk.proofs.Taken.{issue-taken, open-taken, back-taken}
-use Rattle.walk.proofs.Steps.{Holding, walks, zeros-hold}
+use Rattle.walk.proofs.Acceptance.{issue-taken, open-taken, back-taken}
+use Rattle.walk.proofs.Steps.{Holding, back-steps, zeros-hold}
 
 -- How the walk on x stands: the position is what is left of the steps, and the rows hold D and A where back and value were lent them.
 pub record Stands (x : Brought) (k : History) (s : State) : Type 0 where
@@ -33,10 +34,10 @@ pub record Stands (x : Brought) (k : History) (s : State) : Type 0 where
   pub place : s .walk .position + k .walked ≡ x .sheet .steps
   pub held : k .own ≡ true → Holding (x .sheet) (k .walked) (s .walk .position) (s .rows)
 
-pub record Inv (book : ℕ → Brought) (s : State) (k : History) : Type 0 where
+pub record Inv (sheets : ℕ → Brought) (s : State) (k : History) : Type 0 where
   pub size : length (s .register) ≡ 256
   pub out : (y : ℕ) → k .gone y ≡ true → getD (s .register) y 0 ≡ 0
-  pub stood : (y : ℕ) → k .opened ≡ some y → Stands (book y) k s
+  pub stood : (y : ℕ) → k .opened ≡ some y → Stands (sheets y) k s
 
 -- ---- the register
 
@@ -77,16 +78,16 @@ or-cases false b e = inr e
 
 -- ---- the rows lent
 
-pub kept-lent : (t : Lent) (l : Rows) → kept t l (lent t l) ≡ l
-kept-lent same l = refl
-kept-lent (other m) l = refl
+pub kept-lent : (t : LentRows) (l : Rows) → rowsKept t l (rowsLent t l) ≡ l
+kept-lent ownRows l = refl
+kept-lent (otherRows m) l = refl
 
 -- ---- each call
 
-module _ (book : ℕ → Brought) (bears : (y : ℕ) → book y .number ≡ y) (s : State) (k : History) (inv : Inv book s k) where
+module _ (sheets : ℕ → Brought) (bears : (y : ℕ) → sheets y .number ≡ y) (s : State) (k : History) (inv : Inv sheets s k) where
   -- The walk goes on as it stood, with as much known of its rows, or less.
   stays : (own : Bool) (w : Walk) (l : Rows) (g : List ℕ) (gone : ℕ → Bool) → (own ≡ true → k .own ≡ true) → w ≡ s .walk → l ≡ s .rows → (y : ℕ) → k .opened ≡ some y →
-      Stands (book y) (record { opened = k .opened; walked = k .walked; own = own; gone = gone }) (record { register = g; walk = w; rows = l })
+      Stands (sheets y) (record { opened = k .opened; walked = k .walked; own = own; gone = gone }) (record { register = g; walk = w; rows = l })
   stays own w l g gone o ew el y p =
       let q = inv .stood y p in
       record {
@@ -97,11 +98,11 @@ module _ (book : ℕ → Brought) (bears : (y : ℕ) → book y .number ≡ y) (
         held = λ t. rw (ew, el) (q .held (o t));
       }
 
-  keep-issue : (y : ℕ) (o : Entered) → Issues (s .register) y o → Inv book (entered s o .state) k
-  unfolding entered
+  keep-issue : (y : ℕ) (o : RegisterResult) → IssueRule (s .register) y o → Inv sheets (afterWrite s o .state) k
+  unfolding afterWrite
   keep-issue y o r = go (accepted (o .said)) refl
     where
-      go : (b : Bool) → accepted (o .said) ≡ b → Inv book (record { register = o .register; walk = s .walk; rows = s .rows }) k
+      go : (b : Bool) → accepted (o .said) ≡ b → Inv sheets (record { register = o .register; walk = s .walk; rows = s .rows }) k
       go true e =
           let d = r .writes .does e .1 in
           let u = issue-taken (s .register) y o r .0 e in
@@ -112,12 +113,12 @@ module _ (book : ℕ → Brought) (bears : (y : ℕ) → book y .number ≡ y) (
           }
       go false e = rw (r .writes .leaves e) inv
 
-  keep-withdraw : (y : ℕ) (o : Entered) → Withdraws (s .register) y o → Inv book (entered s o .state) (noted k (withdraw y) (o .said))
-  unfolding entered noted
+  keep-withdraw : (y : ℕ) (o : RegisterResult) → WithdrawRule (s .register) y o → Inv sheets (afterWrite s o .state) (noted k (withdraw y) (o .said))
+  unfolding afterWrite noted
   keep-withdraw y o r = go (accepted (o .said)) refl
     where
       go : (b : Bool) → accepted (o .said) ≡ b →
-          Inv book (record { register = o .register; walk = s .walk; rows = s .rows })
+          Inv sheets (record { register = o .register; walk = s .walk; rows = s .rows })
           (record { opened = k .opened; walked = k .walked; own = k .own; gone = λ z. accepted (o .said) && eqb z y || k .gone z })
       go true e =
           let d = r .writes .does e .1 in
@@ -137,13 +138,13 @@ module _ (book : ℕ → Brought) (bears : (y : ℕ) → book y .number ≡ y) (
             stood = stays (k .own) (s .walk) (s .rows) _ _ (λ t. t) refl refl;
           }
 
-  keep-open : (y : ℕ) (t : Lent) (o : Moved) → Opens (book y) (s .register) (s .walk) (lent t (s .rows)) o →
-      Inv book (begun s t o .state) (noted k (opening y t) (o .said))
-  unfolding begun noted
+  keep-open : (y : ℕ) (t : LentRows) (o : WalkResult) → OpenRule (sheets y) (s .register) (s .walk) (rowsLent t (s .rows)) o →
+      Inv sheets (afterOpen s t o .state) (noted k (opening y t) (o .said))
+  unfolding afterOpen noted
   keep-open y t o r = go (accepted (o .said)) refl
     where
       go : (b : Bool) → accepted (o .said) ≡ b →
-          Inv book (record { register = s .register; walk = o .walk; rows = cond (accepted (o .said)) (o .rows) (kept t (s .rows) (o .rows)) })
+          Inv sheets (record { register = s .register; walk = o .walk; rows = cond (accepted (o .said)) (o .rows) (rowsKept t (s .rows) (o .rows)) })
           (cond (accepted (o .said)) (record { opened = some y; walked = 0; own = true; gone = k .gone }) k)
       go true e =
           let d = r .does e in
@@ -151,37 +152,37 @@ module _ (book : ℕ → Brought) (bears : (y : ℕ) → book y .number ≡ y) (
             size = inv .size;
             out = inv .out;
             stood = λ z p.
-                subst (λ v. Stands (book v) (record { opened = some y; walked = 0; own = true; gone = k .gone }) (record { register = s .register; walk = o .walk; rows = o .rows }))
+                subst (λ v. Stands (sheets v) (record { opened = some y; walked = 0; own = true; gone = k .gone }) (record { register = s .register; walk = o .walk; rows = o .rows }))
                 (Option·some-injective y z p)
                 (record {
-                  limits = open-taken (book y) (s .register) (s .walk) (lent t (s .rows)) o r .0 e .limits;
+                  limits = open-taken (sheets y) (s .register) (s .walk) (rowsLent t (s .rows)) o r .0 e .limits;
                   opened = ap (λ w. w .«open») (d .walk);
                   number = ap (λ w. w .number) (d .walk);
-                  place = rw (d .walk) (add-zero (book y .sheet .steps));
-                  held = λ h. rw (d .walk) (zeros-hold (book y .sheet) (o .rows) (d .default-size) (d .premium-size) (d .default) (d .premium));
+                  place = rw (d .walk) (add-zero (sheets y .sheet .steps));
+                  held = λ h. rw (d .walk) (zeros-hold (sheets y .sheet) (o .rows) (d .size) (d .default) (d .premium));
                 });
           })
       go false e =
           let d = r .leaves e in
           rw (e, d .0, d .1, kept-lent) inv
 
-  keep-back : (y : ℕ) (t : Lent) (c : ℕ) (o : Moved) → Backs (book y) (s .register) (s .walk) (lent t (s .rows)) c o →
-      Inv book (went s t o .state) (noted k (back y t c) (o .said))
-  unfolding went noted
+  keep-back : (y : ℕ) (t : LentRows) (c : ℕ) (o : WalkResult) → BackRule (sheets y) (s .register) (s .walk) (rowsLent t (s .rows)) c o →
+      Inv sheets (afterWalkCall s t o .state) (noted k (back y t c) (o .said))
+  unfolding afterWalkCall noted
   keep-back y t c o r = go (accepted (o .said)) refl
     where
-      held : (t : Lent) (z : ℕ) → Stands (book z) k s → z ≡ y → c ≤ s .walk .position → Walks (book y .sheet) c (s .walk .position) (lent t (s .rows)) (o .rows) →
-          (k .own && isSame t) ≡ true → Holding (book z .sheet) (k .walked + c) (s .walk .position - c) (kept t (s .rows) (o .rows))
-      held same z q e far w h =
-          walks (book z .sheet) (q .limits .lists .hazards) c (k .walked) (s .walk .position) (s .rows) (o .rows) far (rw e w) (q .held (both _ _ h .0))
-      held (other l) z q e far w h = absurd (false≢true (both (k .own) false h .1))
+      held : (t : LentRows) (z : ℕ) → Stands (sheets z) k s → z ≡ y → c ≤ s .walk .position → BackSteps (sheets y .sheet) c (s .walk .position) (rowsLent t (s .rows)) (o .rows) →
+          (k .own && isOwn t) ≡ true → Holding (sheets z .sheet) (k .walked + c) (s .walk .position - c) (rowsKept t (s .rows) (o .rows))
+      held ownRows z q e far w h =
+          back-steps (sheets z .sheet) (q .limits .lists .1 .hazards) c (k .walked) (s .walk .position) (s .rows) (o .rows) far (rw e w) (q .held (both _ _ h .0))
+      held (otherRows l) z q e far w h = absurd (false≢true (both (k .own) false h .1))
 
       go : (b : Bool) → accepted (o .said) ≡ b →
-          Inv book (record { register = s .register; walk = o .walk; rows = kept t (s .rows) (o .rows) })
-          (record { opened = k .opened; walked = cond (accepted (o .said)) (k .walked + c) (k .walked); own = k .own && isSame t; gone = k .gone })
+          Inv sheets (record { register = s .register; walk = o .walk; rows = rowsKept t (s .rows) (o .rows) })
+          (record { opened = k .opened; walked = cond (accepted (o .said)) (k .walked + c) (k .walked); own = k .own && isOwn t; gone = k .gone })
       go true e =
           let d = r .does e in
-          let a = back-taken (book y) (s .register) (s .walk) (lent t (s .rows)) o c r .0 e in
+          let a = back-taken (sheets y) (s .register) (s .walk) (rowsLent t (s .rows)) o c r .0 e in
           record {
             size = inv .size;
             out = inv .out;
@@ -202,46 +203,46 @@ module _ (book : ℕ → Brought) (bears : (y : ℕ) → book y .number ≡ y) (
           rw e (record {
             size = inv .size;
             out = inv .out;
-            stood = stays (k .own && isSame t) _ _ _ _ (λ h. both _ _ h .0) (d .0) (ap (kept t (s .rows)) (d .1) ∙ kept-lent t (s .rows));
+            stood = stays (k .own && isOwn t) _ _ _ _ (λ h. both _ _ h .0) (d .0) (ap (rowsKept t (s .rows)) (d .1) ∙ kept-lent t (s .rows));
           })
 
-  keep-value : (y : ℕ) (t : Lent) (i j : ℕ) (o : Moved) → Values (book y) (s .register) (s .walk) (lent t (s .rows)) i j o →
-      Inv book (went s t o .state) (noted k (value y t i j) (o .said))
-  unfolding went noted
+  keep-value : (y : ℕ) (t : LentRows) (i j : ℕ) (o : WalkResult) → ValueRule (sheets y) (s .register) (s .walk) (rowsLent t (s .rows)) i j o →
+      Inv sheets (afterWalkCall s t o .state) (noted k (value y t i j) (o .said))
+  unfolding afterWalkCall noted
   keep-value y t i j o r = go (accepted (o .said)) refl
     where
-      stay : o .walk ≡ s .walk → o .rows ≡ lent t (s .rows) →
-          Inv book (record { register = s .register; walk = o .walk; rows = kept t (s .rows) (o .rows) })
-          (record { opened = k .opened; walked = k .walked; own = k .own && isSame t; gone = k .gone })
+      stay : o .walk ≡ s .walk → o .rows ≡ rowsLent t (s .rows) →
+          Inv sheets (record { register = s .register; walk = o .walk; rows = rowsKept t (s .rows) (o .rows) })
+          (record { opened = k .opened; walked = k .walked; own = k .own && isOwn t; gone = k .gone })
       stay w l =
           record {
             size = inv .size;
             out = inv .out;
-            stood = stays (k .own && isSame t) _ _ _ _ (λ h. both _ _ h .0) w (ap (kept t (s .rows)) l ∙ kept-lent t (s .rows));
+            stood = stays (k .own && isOwn t) _ _ _ _ (λ h. both _ _ h .0) w (ap (rowsKept t (s .rows)) l ∙ kept-lent t (s .rows));
           }
 
       go : (b : Bool) → accepted (o .said) ≡ b →
-          Inv book (record { register = s .register; walk = o .walk; rows = kept t (s .rows) (o .rows) })
-          (record { opened = k .opened; walked = k .walked; own = k .own && isSame t; gone = k .gone })
+          Inv sheets (record { register = s .register; walk = o .walk; rows = rowsKept t (s .rows) (o .rows) })
+          (record { opened = k .opened; walked = k .walked; own = k .own && isOwn t; gone = k .gone })
       go true e = stay (r .does e .walk) (r .does e .rows)
       go false e = stay (r .leaves e .0) (r .leaves e .1)
 
-module _ (e : Engine) (rules : Rules e) (book : ℕ → Brought) (bears : (y : ℕ) → book y .number ≡ y) where
-  keep : (s : State) (k : History) → Inv book s k → (c : Call) → Inv book (turn e book s c .state) (noted k c (turn e book s c .said))
-  unfolding turn entered begun went
-  keep s k inv (issue y) = unfold noted in keep-issue book bears s k inv y _ (rules .issue _ y)
-  keep s k inv (withdraw y) = keep-withdraw book bears s k inv y _ (rules .withdraw _ y)
-  keep s k inv (opening y t) = keep-open book bears s k inv y t _ (rules .opening _ _ _ _)
-  keep s k inv (back y t c) = keep-back book bears s k inv y t c _ (rules .back _ _ _ _ c)
-  keep s k inv (value y t i j) = keep-value book bears s k inv y t i j _ (rules .value _ _ _ _ i j)
+module _ (e : Engine) (rules : Rules e) (sheets : ℕ → Brought) (bears : (y : ℕ) → sheets y .number ≡ y) where
+  keep : (s : State) (k : History) → Inv sheets s k → (c : Call) → Inv sheets (callResult e sheets s c .state) (noted k c (callResult e sheets s c .said))
+  unfolding callResult afterWrite afterOpen afterWalkCall
+  keep s k inv (issue y) = unfold noted in keep-issue sheets bears s k inv y _ (rules .issue _ y)
+  keep s k inv (withdraw y) = keep-withdraw sheets bears s k inv y _ (rules .withdraw _ y)
+  keep s k inv (opening y t) = keep-open sheets bears s k inv y t _ (rules .opening _ _ _ _)
+  keep s k inv (back y t c) = keep-back sheets bears s k inv y t c _ (rules .back _ _ _ _ c)
+  keep s k inv (value y t i j) = keep-value sheets bears s k inv y t i j _ (rules .value _ _ _ _ i j)
 
-  keep-all : (s : State) (k : History) → Inv book s k → (l : List Call) → Inv book (after e book s l) (told e book s k l)
-  unfolding after told
+  keep-all : (s : State) (k : History) → Inv sheets s k → (l : List Call) → Inv sheets (stateAfter e sheets s l) (historyAfter e sheets s k l)
+  unfolding stateAfter historyAfter
   keep-all s k inv [] = inv
   keep-all s k inv (c ∷ l) = keep-all _ _ (keep s k inv c) l
 
-at-start : (book : ℕ → Brought) (s : State) → length (s .register) ≡ 256 → Inv book s nothing
-at-start book s e =
+at-start : (sheets : ℕ → Brought) (s : State) → length (s .register) ≡ 256 → Inv sheets s noHistory
+at-start sheets s e =
     record {
       size = e;
       out = λ y p. absurd (false≢true p);
@@ -249,5 +250,5 @@ at-start book s e =
     }
 
 -- Where any list ends.
-pub known : (e : Engine) → Rules e → (u : Run) → Inv (u .book .sheet) (end e u) (history e u)
-known e rules u = keep-all e rules (u .book .sheet) (u .book .bears) _ _ (at-start (u .book .sheet) (u .start) (u .whole)) (u .calls)
+pub known : (e : Engine) → Rules e → (u : Run) → Inv (u .catalogue .sheet) (end e u) (history e u)
+known e rules u = keep-all e rules (u .catalogue .sheet) (u .catalogue .bears) _ _ (at-start (u .catalogue .sheet) (u .start) (u .whole)) (u .calls)

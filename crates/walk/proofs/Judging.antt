@@ -1,4 +1,4 @@
--- Tests that stand for an order of rules, and what it is to be judged by one. Assumes nothing.
+-- Tests that stand for an order of rules, and what it is to be judged by one.
 use Prim.Native.Nat.{ℕ, _≤_}
 use mathlib.Core.Path.{_≡_, refl, sym, _∙_, ap}
 use mathlib.Core.Bool.{Bool, true, false, not, _&&_, true≢false, false≢true}
@@ -8,14 +8,14 @@ use native.Mathlib.Nat.{le-of-eq, le-trans}
 use lib.Dec.{eqb, leb}
 use borrow.Author.Tests.{eq-eqb, leb-true, not-true}
 use Rattle.register.proofs.Masks.{both}
-use Rattle.sheet.specs.declared.Refusal.{Refusal}
-use Rattle.sheet.specs.declared.Refusal.the-variants.{Pool, Length, Recovery, Attachments, Hazard, Discount, Accrual, Coupon, Withdrawn, Unissued, NoWalk, OverCeiling, OutOfSteps, OffTree, FlatHedge, OffScale}
-use Rattle.sheet.specs.declared.Found.the-variants.{Fine, Refused}
-use Rattle.sheet.specs.Refusals.{refusalNumber}
-use Rattle.sheet.specs.Tests.{Test, first}
-use Rattle.sheet.proofs.Firsts.{first-none, first-met, first-passed, first-fine}
+use Rattle.checks.specs.declared.Refusal.{Refusal}
+use Rattle.checks.specs.declared.Refusal.the-variants.{Pool, Length, Recovery, Attachments, Hazard, Discount, Accrual, Coupon, Withdrawn, Unissued, NoWalk, OverCeiling, OutOfSteps, OffTree, FlatHedge, OffScale}
+use Rattle.checks.specs.declared.Found.the-variants.{Fine, Refused}
+use Rattle.checks.specs.Refusals.{refusalNumber}
+use Rattle.checks.specs.Tests.{Test, first}
+use Rattle.checks.proofs.FirstTest.{first-none, first-met, first-passed, first-fine}
 use Rattle.walk.specs.Answers.{Said, accepted}
-use Rattle.walk.specs.Table.{Order, Judges}
+use Rattle.walk.specs.RefusalOrders.{RefusalOrder, Judges}
 
 -- ---- answers
 
@@ -51,45 +51,45 @@ either false = inr refl
 -- ---- orders
 
 -- Every rule of an order holds.
-abbrev pub Holds : Order → Type 0
+abbrev pub Holds : RefusalOrder → Type 0
 Holds [] = Unit {0}
 Holds (t ∷ l) = t .0 × Holds l
 
 -- No rule of an order has the number 0, which an accepted call answers.
-abbrev pub numbered : Order → Bool
+abbrev pub numbered : RefusalOrder → Bool
 numbered [] = true
 numbered (t ∷ l) = not (eqb (t .1) 0) && numbered l
 
-head-some : (t : Type 0 × ℕ) (l : Order) → numbered (t ∷ l) ≡ true → eqb (t .1) 0 ≡ false
+head-some : (t : Type 0 × ℕ) (l : RefusalOrder) → numbered (t ∷ l) ≡ true → eqb (t .1) 0 ≡ false
 head-some t l e = not-true (eqb (t .1) 0) (both (not (eqb (t .1) 0)) (numbered l) e .0)
 
-tail-some : (t : Type 0 × ℕ) (l : Order) → numbered (t ∷ l) ≡ true → numbered l ≡ true
+tail-some : (t : Type 0 × ℕ) (l : RefusalOrder) → numbered (t ∷ l) ≡ true → numbered l ≡ true
 tail-some t l e = both (not (eqb (t .1) 0)) (numbered l) e .1
 
 -- A call that keeps to every rule of its order is accepted.
-pub holds-accepted : (m : Order) (a : Said) → Judges m a → Holds m → accepted a ≡ true
+pub holds-accepted : (m : RefusalOrder) (a : Said) → Judges m a → Holds m → accepted a ≡ true
 unfolding Judges
 holds-accepted [] a j h = number-accepted a j
 holds-accepted (t ∷ l) a (inl p) h = absurd (p .0 (h .0))
 holds-accepted (t ∷ l) a (inr p) h = holds-accepted l a (p .1) (h .1)
 
 -- A call that is accepted keeps to every rule of its order.
-pub accepted-holds : (m : Order) (a : Said) → numbered m ≡ true → Judges m a → accepted a ≡ true → Holds m
+pub accepted-holds : (m : RefusalOrder) (a : Said) → numbered m ≡ true → Judges m a → accepted a ≡ true → Holds m
 unfolding Judges
 accepted-holds [] a s j e = tt
 accepted-holds (t ∷ l) a s (inl p) e = absurd (false≢true (sym (head-some t l s) ∙ sym (ap accepted (p .1)) ∙ e))
 accepted-holds (t ∷ l) a s (inr p) e = (p .0, accepted-holds l a (tail-some t l s) (p .1) e)
 
 -- Together.
-pub judged-accepted : (m : Order) (a : Said) → numbered m ≡ true → Judges m a → (accepted a ≡ true) ↔ Holds m
+pub judged-accepted : (m : RefusalOrder) (a : Said) → numbered m ≡ true → Judges m a → (accepted a ≡ true) ↔ Holds m
 judged-accepted m a s j = (accepted-holds m a s j, holds-accepted m a j)
 
 -- The numbers of the rules before a broken one are at most its own: the call is refused, by a number that is no greater and no value beside it.
-abbrev pub upTo : ℕ → Order → Bool
+abbrev pub upTo : ℕ → RefusalOrder → Bool
 upTo n [] = true
 upTo n (t ∷ l) = leb (t .1) n && upTo n l
 
-pub broken-refused : (m : Order) (K : Type 0) (n : ℕ) (rest : Order) (a : Said) → numbered (m ++ ((K, n) ∷ rest)) ≡ true → upTo n m ≡ true → ¬ K
+pub broken-refused : (m : RefusalOrder) (K : Type 0) (n : ℕ) (rest : RefusalOrder) (a : Said) → numbered (m ++ ((K, n) ∷ rest)) ≡ true → upTo n m ≡ true → ¬ K
     → Judges (m ++ ((K, n) ∷ rest)) a → (accepted a ≡ false) × (a .number ≤ n) × (a .values ≡ [])
 unfolding Judges
 broken-refused [] K n rest a s u h (inl p) = (
@@ -110,7 +110,7 @@ broken-refused (t ∷ m) K n rest a s u h (inr p) =
 abbrev pub Alike : Said → Said → Type 0
 Alike a b = ((a ≡ b) × (accepted a ≡ false) × (accepted b ≡ false)) ⊎ ((accepted a ≡ true) × (accepted b ≡ true))
 
-pub judged-once : (m : Order) (a b : Said) → numbered m ≡ true → Judges m a → Judges m b → Alike a b
+pub judged-once : (m : RefusalOrder) (a b : Said) → numbered m ≡ true → Judges m a → Judges m b → Alike a b
 unfolding Judges
 judged-once [] a b s p q = inr (number-accepted a p, number-accepted b q)
 judged-once (t ∷ l) a b s (inl p) (inl q) =
@@ -122,14 +122,14 @@ judged-once (t ∷ l) a b s (inr p) (inr q) = judged-once l a b (tail-some t l s
 -- ---- tests
 
 -- Tests that stand for an order: where the rules before it hold, each is false just where its rule holds, and its refusal has the rule's number.
-abbrev pub Stands : List Test → Order → Type 0
+abbrev pub Stands : List Test → RefusalOrder → Type 0
 Stands [] [] = Unit {0}
 Stands [] (r ∷ m) = ⊥
 Stands (t ∷ l) [] = ⊥
 Stands (t ∷ l) (r ∷ m) = ((t .0 ≡ false) ↔ r .0) × (refusalNumber (t .1) ≡ r .1) × (r .0 → Stands l m)
 
 -- They find nothing just where every rule holds.
-pub stands-fine : (l : List Test) (m : Order) → Stands l m → (first l ≡ Fine) ↔ Holds m
+pub stands-fine : (l : List Test) (m : RefusalOrder) → Stands l m → (first l ≡ Fine) ↔ Holds m
 stands-fine [] [] s = (λ e. tt, λ h. first-none)
 stands-fine [] (r ∷ m) s = absurd s
 stands-fine (t ∷ l) [] s = absurd s
@@ -140,7 +140,7 @@ stands-fine (t ∷ l) (r ∷ m) s =
     )
 
 -- An answer that follows the first test met is judged by the order.
-pub stands-judges : (l : List Test) (m : Order) (a : Said) → Stands l m → (first l ≡ Fine → a .number ≡ 0)
+pub stands-judges : (l : List Test) (m : RefusalOrder) (a : Said) → Stands l m → (first l ≡ Fine → a .number ≡ 0)
     → ((f : Refusal) → first l ≡ Refused f → a ≡ refusal (refusalNumber f)) → Judges m a
 unfolding Judges
 stands-judges [] [] a s fine refused = fine first-none

@@ -1,51 +1,47 @@
--- The tests of each call stand for its order of rules; what the rules of an order come to. Assumes nothing.
-use Prim.Native.Nat.{ℕ, suc, _+_, _*_, _≤_, _<_}
+-- The tests of each call stand for its order of rules; what the rules of an order come to.
+use Prim.Native.Nat.{ℕ, suc, _*_, _≤_, _<_}
 use mathlib.Core.Path.{_≡_, refl, sym, _∙_, ap}
-use mathlib.Core.Bool.{Bool, true, false, not, _||_, true≢false}
+use mathlib.Core.Bool.{Bool, true, false, _||_, true≢false}
 use mathlib.Core.List.{List, [], _∷_}
 use mathlib.Core.Logic.{_↔_, Iff·trans, _⊎_, inl, inr}
 use native.Mathlib.Omega.{arith}
 use lib.ListN.{length, getD}
 use lib.IntN.{natAbs}
-use borrow.Author.Tests.{eqb-false, ne-eqb, not-false}
+use borrow.Author.Tests.{eqb-false, ne-eqb}
 use Rattle.register.specs.declared.answers.Status.{Status}
 use Rattle.register.specs.declared.answers.Status.the-variants as Status
 use Rattle.register.specs.Register.{statusIn}
 use Rattle.register.specs.Rules.{Unissued, Live, Withdrawn}
 use Rattle.register.proofs.Rules.{Says, wrong, withdrawn, unissued, live, says}
-use Rattle.tree.specs.Sheet.{Sheet, defaultMost, premiumMost}
-use Rattle.rows.specs.Rows.{nodeIn, anyOver, soiled}
+use Rattle.sheet.specs.Terms.{Terms}
+use Rattle.tree.specs.Sheet.{defaultMost, premiumMost}
+use Rattle.rows.specs.Rows.{nodeIn, anyOver, soiled, Rows}
 use Rattle.sheet.specs.Brought.{Brought}
 use Rattle.sheet.specs.Limits.{ListsFit, Limits}
-use Rattle.sheet.specs.Tests.{Test, listsBad, sheetTests}
-use Rattle.sheet.proofs.Judged.{or-fine, most-fine, rise-fine, differs-fine, any-fine}
-use Rattle.sheet.proofs.Meanings.{pool-fine, lengths-fine, recovery-fine, attachments-fine, hazards-fine, discounts-fine, accruals-fine, coupons-fine}
+use Rattle.checks.specs.Tests.{Test, listsBad, sheetTests}
+use Rattle.checks.proofs.Judged.{or-fine, most-fine, rise-fine, any-fine}
+use Rattle.checks.proofs.Meanings.{pool-fine, lengths-fine, recovery-fine, attachments-fine, hazards-fine, discounts-fine, accruals-fine, coupons-fine}
 use Rattle.walk.specs.declared.Walk.{Walk}
-use Rattle.walk.specs.Answers.{Rows}
-use Rattle.walk.specs.Table.{LentFit, ForwardFit, OnWalk, Clean, jump, Order, toTen, toTwelve, openOrder, backOrder, valueOrder, ratioOrder, forwardOrder}
-use Rattle.walk.specs.Calls.{rowsBad, rowBad, isWithdrawn, isUnissued, walkBad, tenTests, twelveTests, openTests, backTests, valueTests, ratioTests, forwardTests}
+use Rattle.figures.specs.Nodes.{jump}
+use Rattle.walk.specs.RefusalOrders.{LentFit, ForwardFit, OnWalk, Clean, RefusalOrder, toTen, toTwelve, openOrder, backOrder, valueOrder, ratioOrder, forwardOrder}
+use Rattle.admission.specs.LentTests.{rowsBad, rowBad, isWithdrawn, isUnissued, offWalk, tenTests, walkTests}
+use Rattle.walk.specs.Calls.{twelveTests, openTests, backTests, valueTests, ratioTests, forwardTests}
+use Rattle.admission.proofs.Lengths.{rows-fine, row-fine, off-fine}
 use Rattle.walk.proofs.Judging.{Holds, Stands}
 
 -- ---- 2: the lengths
 
 module _ (x : Brought) (g : List ℕ) where
-  pub rows-fine : (l : Rows) → (rowsBad x g l ≡ false)
-      ↔ (((length g ≡ 256) × (length (l .defaults) ≡ (x .sheet .tranches + 1) * (x .sheet .names + 1))) × (length (l .premiums) ≡ (x .sheet .tranches + 1) * (x .sheet .names + 1)))
-  unfolding rowsBad
-  rows-fine l = or-fine (or-fine (differs-fine (length g) 256) (differs-fine (length (l .defaults)) _)) (differs-fine (length (l .premiums)) _)
-
-  pub row-fine : (q : List ℕ) → (rowBad x g q ≡ false) ↔ ((length g ≡ 256) × (length q ≡ x .sheet .names + 1))
-  unfolding rowBad
-  row-fine q = or-fine (differs-fine (length g) 256) (differs-fine (length q) _)
-
   pub rows-lent-fine : (l : Rows) → ((listsBad x || rowsBad x g l) ≡ false) ↔ LentFit x g l
   rows-lent-fine l =
-      Iff·trans (lengths-fine x (rows-fine l))
-      (λ m. record { lists = m .0; size = m .1 .0 .0; defaults = m .1 .0 .1; premiums = m .1 .1 }, λ p. (p .lists, ((p .size, p .defaults), p .premiums)))
+      Iff·trans (lengths-fine x (rows-fine x g l)) (
+        λ m. record { lists = m .0; size = m .1 .0 .0; rows = record { defaults = m .1 .0 .1; premiums = m .1 .1 } },
+        λ p. (p .lists, ((p .size, p .rows .defaults), p .rows .premiums)),
+      )
 
   pub row-lent-fine : (q : List ℕ) → ((listsBad x || rowBad x g q) ≡ false) ↔ ForwardFit x g q
   row-lent-fine q =
-      Iff·trans (lengths-fine x (row-fine q))
+      Iff·trans (lengths-fine x (row-fine x g q))
       (λ m. record { lists = m .0; size = m .1 .0; row = m .1 .1 }, λ p. (p .lists, (p .size, p .row)))
 
 -- ---- 9 and 10: the register, of the right length
@@ -85,24 +81,19 @@ module _ (g : List ℕ) (y : ℕ) (long : length g ≡ 256) where
 
 -- ---- 11 and 12: the walk and its rows
 
-pub walk-fine : (x : Brought) (w : Walk) → (walkBad x w ≡ false) ↔ OnWalk x w
-unfolding walkBad
+pub walk-fine : (x : Brought) (w : Walk) → (offWalk x (w .«open») (w .number) (w .position) ≡ false) ↔ OnWalk x w
 walk-fine x w =
-    Iff·trans
-    (or-fine (or-fine (opened-fine (w .«open»)) (differs-fine (w .number) (x .number))) (most-fine (x .sheet .steps) (w .position)))
+    Iff·trans (off-fine x (w .«open») (w .number) (w .position))
     (λ m. record { opened = m .0 .0; number = m .0 .1; position = m .1 }, λ p. ((p .opened, p .number), p .position))
-  where
-    opened-fine : (b : Bool) → (not b ≡ false) ↔ (b ≡ true)
-    opened-fine b = (not-false b, ap not)
 
-pub over-fine : (x : Sheet) (most : ℕ → ℕ → ℕ) (row : List ℕ)
+pub over-fine : (x : Terms) (most : ℕ → ℕ → ℕ) (row : List ℕ)
     → (anyOver x most row ≡ false) ↔ ((j k : ℕ) → j ≤ x .tranches → k ≤ x .names → nodeIn x row j k ≤ most j k)
 unfolding anyOver
 over-fine x most row =
     Iff·trans (any-fine (suc (x .tranches)) (λ j. any-fine (suc (x .names)) (λ k. most-fine (most j k) (nodeIn x row j k))))
     (λ m j k p q. m j (omega arith) k (omega arith), λ m j p k q. m j k (omega arith) (omega arith))
 
-pub soiled-fine : (x : Sheet) (i : ℕ) (l : Rows) → (soiled x i (l .defaults) (l .premiums) ≡ false) ↔ Clean x i l
+pub soiled-fine : (x : Terms) (i : ℕ) (l : Rows) → (soiled x i (l .defaults) (l .premiums) ≡ false) ↔ Clean x i l
 unfolding soiled
 soiled-fine x i l =
     Iff·trans (or-fine (over-fine x (defaultMost x) (l .defaults)) (over-fine x (λ j k. premiumMost x i k) (l .premiums)))
@@ -112,7 +103,7 @@ soiled-fine x i l =
 
 module _ (x : Brought) (g : List ℕ) where
   -- Checks 1 to 10, with any check of the lengths that has the register's.
-  pub ten-stands : (lent : Bool) (K : Type 0) (more : List Test) (m : Order) → ((listsBad x || lent) ≡ false) ↔ K → (K → length g ≡ 256)
+  pub ten-stands : (lent : Bool) (K : Type 0) (more : List Test) (m : RefusalOrder) → ((listsBad x || lent) ≡ false) ↔ K → (K → length g ≡ 256)
       → Stands more m → Stands (tenTests x g lent more) (toTen x g K m)
   unfolding tenTests sheetTests
   ten-stands lent K more m lengths long rest = (
@@ -150,8 +141,8 @@ module _ (x : Brought) (g : List ℕ) where
     ),
   )
 
-  pub twelve-stands : (w : Walk) (l : Rows) (more : List Test) (m : Order) → Stands more m → Stands (twelveTests x g w l more) (toTwelve x g w l m)
-  unfolding twelveTests
+  pub twelve-stands : (w : Walk) (l : Rows) (more : List Test) (m : RefusalOrder) → Stands more m → Stands (twelveTests x g w l more) (toTwelve x g w l m)
+  unfolding walkTests
   twelve-stands w l more m rest =
       ten-stands (rowsBad x g l) _ _ _ (rows-lent-fine x g l) (λ k. k .size)
       (walk-fine x w, refl, λ k11. (soiled-fine (x .sheet) (w .position) l, refl, λ k12. rest))
@@ -210,7 +201,7 @@ pub record Forwarding (x : Brought) (g q : List ℕ) (i : ℕ) : Type 0 where
   pub steps : i ≤ x .sheet .steps
 
 module _ (x : Brought) (g : List ℕ) where
-  pub ten-holds : (K : Type 0) (m : Order) → (K → ListsFit x) → Holds (toTen x g K m) ↔ (Limits x × K × Live g (x .number) × Holds m)
+  pub ten-holds : (K : Type 0) (m : RefusalOrder) → (K → ListsFit x) → Holds (toTen x g K m) ↔ (Limits x × K × Live g (x .number) × Holds m)
   ten-holds K m lists = (there, back)
     where
       there : Holds (toTen x g K m) → Limits x × K × Live g (x .number) × Holds m
@@ -230,7 +221,7 @@ module _ (x : Brought) (g : List ℕ) where
       Iff·trans (ten-holds (LentFit x g l) [] (λ k. k .lists))
       (λ p. record { limits = p .0; lent = p .1; live = p .2 }, λ o. (o .limits, o .lent, o .live, tt))
 
-  pub twelve-holds : (w : Walk) (l : Rows) (m : Order) → Holds (toTwelve x g w l m) ↔ (OnWay x g w l × Holds m)
+  pub twelve-holds : (w : Walk) (l : Rows) (m : RefusalOrder) → Holds (toTwelve x g w l m) ↔ (OnWay x g w l × Holds m)
   twelve-holds w l m =
       Iff·trans (ten-holds (LentFit x g l) ((OnWalk x w, 11) ∷ (Clean (x .sheet) (w .position) l, 12) ∷ m) (λ k. k .lists)) (
         λ p. (record { limits = p .0; lent = p .1; live = p .2; walk = p .3 .0; clean = p .3 .1 .0 }, p .3 .1 .1),

@@ -1,4 +1,4 @@
--- On the rows of a walk no jump and no hedge ratio is negative. Assumes nothing.
+-- On the rows of a walk no jump and no hedge ratio is negative.
 use Prim.Native.Nat.{ℕ, zero, suc, _+_, _-_, _*_, _≤_, _<_}
 use mathlib.Core.Path.{_≡_, refl, _∙_, ap, subst}
 use mathlib.Core.Bool.{Bool, true, false, cond, true≢false}
@@ -10,22 +10,22 @@ use lib.Dec.{ltb}
 use lib.IntN.{ℤ, pos, negsuc, negℤ, natAbs, subℕ, _+ℤ_, _*ℤ_, negℤ-negℤ}
 use borrow.Author.Tests.{le-ltb, ltb-true}
 use Rattle.cash.specs.declared.Node.{Node}
-use Rattle.cash.specs.Hedges.{negative, signed, millionths, changeOf, jumpOf, ratioOf}
+use Rattle.cash.specs.Hedges.{negative, withSign, millionths, changeOf, jumpOf, ratioOf}
 use Rattle.cash.specs.Losses.{defaultPayment}
+use Rattle.sheet.proofs.Limits.{limits-terms}
 use Rattle.tree.proofs.Sheets.{loss-rises}
 use Rattle.tree.proofs.Statements.{jumps}
 use Rattle.sheet.specs.Brought.{Brought}
-use Rattle.sheet.proofs.Limits.{within}
 use Rattle.walk.specs.Answers.{accepted}
-use Rattle.walk.specs.Table.{nodeOf, jump}
-use Rattle.walk.specs.Does.{says}
+use Rattle.figures.specs.Nodes.{nodeOf, jump}
+use Rattle.walk.specs.CallRules.{says}
 use Rattle.walk.specs.Engine.{Engine}
-use Rattle.walk.specs.Lists.{Run, end}
-use Rattle.walk.specs.Promises.{Walked}
+use Rattle.walk.specs.CallLists.{Run, end}
+use Rattle.walk.specs.Accuracy.{Walked}
 use Rattle.walk.specs.Promise.{Rules}
 use Rattle.walk.specs.Risk.{hedging, Gains, NeverNegative}
-use Rattle.walk.proofs.Taken.{ratio-taken}
-use Rattle.walk.proofs.Owed.{placed, same-sheet}
+use Rattle.walk.proofs.Acceptance.{ratio-taken}
+use Rattle.walk.proofs.Accuracy.{placed, same-sheet}
 
 -- ---- numbers of either sign
 
@@ -95,33 +95,33 @@ jump-up coupon here next l d p =
     (times-down coupon paid (falls (here .premium) (next .premium) p))
 
 ratio-up : (tranche index : ℤ) → negative tranche ≡ false → negative index ≡ false → ratioOf tranche index ≡ pos (millionths (natAbs tranche) (natAbs index))
-unfolding ratioOf signed
+unfolding ratioOf withSign
 ratio-up tranche index e f = rw (e, f)
 
 -- ---- where a list ends
 
 module _ (e : Engine) (rules : Rules e) (u : Run) (z h : ℕ) (w : Walked e u z h) where
   abbrev x : Brought
-  x = u .book .sheet z
+  x = u .catalogue .sheet z
 
   no-less : (j k : ℕ) → j ≤ x .sheet .tranches → k < x .sheet .names → negative (jump x (end e u .rows) j k) ≡ false
   unfolding jump nodeOf defaultPayment
   no-less j k l m =
       let p = placed e rules u z h w in
-      let inside = within x (p .stood .limits) in
+      let inside = limits-terms x (p .stood .limits) in
       let s = jumps (x .sheet) inside in
       let i = x .sheet .steps - h in
       let k≤n : k ≤ x .sheet .names = omega arith in
-      jump-up (getD (x .coupons) j 0) _ _ (loss-rises (x .sheet) inside j k)
+      jump-up (getD (x .coupons) j 0) _ _ (loss-rises (x .sheet) (inside .tranches) j k)
       (omega (arith, p .rows .default j k l k≤n, p .rows .default j (suc k) l m, s .default j h i k m))
       (omega (arith, p .rows .premium j k l k≤n, p .rows .premium j (suc k) l m, s .premium j h i k m))
 
   ratio : (y j k : ℕ) → accepted (hedging e u y j k .said) ≡ true → (n : ℕ) × (hedging e u y j k .said ≡ says (pos n ∷ []))
   unfolding hedging
   ratio y j k t =
-      let r = rules .ratio (u .book .sheet y) (end e u .register) (end e u .walk) (end e u .rows) j k in
-      let a = ratio-taken (u .book .sheet y) (end e u .register) (end e u .walk) (end e u .rows) _ j k r .0 t in
-      let b : u .book .sheet y ≡ x = same-sheet e rules u z h w y (a .0 .walk) in
+      let r = rules .ratio (u .catalogue .sheet y) (end e u .register) (end e u .walk) (end e u .rows) j k in
+      let a = ratio-taken (u .catalogue .sheet y) (end e u .register) (end e u .walk) (end e u .rows) _ j k r .0 t in
+      let b : u .catalogue .sheet y ≡ x = same-sheet e rules u z h w y (a .0 .walk) in
       let j≤r : j ≤ x .sheet .tranches = subst (λ x. j ≤ x .sheet .tranches) b (a .1) in
       let k<n : k < x .sheet .names = subst (λ x. k < x .sheet .names) b (a .2) in (
         _,

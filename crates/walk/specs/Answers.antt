@@ -1,21 +1,18 @@
--- Rows, and what calls answer, by document 01's numbers and values.
+-- What calls answer, by document 01's numbers and values.
 use Prim.Native.Nat.{ℕ}
-use mathlib.Core.Bool.{Bool, true, false}
+use mathlib.Core.Bool.{Bool, false}
 use mathlib.Core.List.{List, [], _∷_}
 use lib.Dec.{eqb}
 use lib.IntN.{ℤ, pos}
-use Rattle.register.specs.declared.answers.Answer as Register
+use Rattle.cash.specs.declared.Hedge.{Hedge}
+use Rattle.cash.specs.declared.Hedge.the-variants as Hedge
+use Rattle.register.specs.declared.answers.WriteAnswer as Register
 use Rattle.register.specs.Register.{numberOf}
-use Rattle.sheet.specs.declared.Refusal.{Refusal}
-use Rattle.sheet.specs.Refusals.{refusalNumber}
+use Rattle.checks.specs.declared.Refusal.the-variants.{FlatHedge, OffScale}
+use Rattle.checks.specs.Refusals.{refusalNumber}
 use Rattle.walk.specs.declared.Walk.{Walk}
 use Rattle.walk.specs.declared.Answer.{Answer}
 use Rattle.walk.specs.declared.Answer.the-variants.{Refused, Done, Position, Worth, Ratio}
-
--- The two rows that are lent: (r + 1) × (n + 1) numbers each, tranche by tranche, then by count.
-pub record Rows : Type 0 where
-  pub defaults : List ℕ
-  pub premiums : List ℕ
 
 -- A fresh walk is closed, with zeros.
 abbrev pub fresh : Walk
@@ -27,15 +24,21 @@ pub record Said : Type 0 where
   pub values : List ℤ
 
 abbrev pub saidOf : Answer → Said
-saidOf (Refused f) = record { number = refusalNumber f; values = [] }
+saidOf (Refused refusal) = record { number = refusalNumber refusal; values = [] }
 saidOf Done = record { number = 0; values = [] }
 saidOf (Position i) = record { number = 0; values = pos i ∷ [] }
 saidOf (Worth d a w) = record { number = 0; values = pos d ∷ pos a ∷ w ∷ [] }
 saidOf (Ratio z) = record { number = 0; values = z ∷ [] }
 
 -- The same of issue and withdraw, which answer no value.
-abbrev pub saidBy : Register.Answer → Said
-saidBy a = record { number = numberOf a; values = [] }
+abbrev pub saidBy : Register.WriteAnswer → Said
+saidBy answer = record { number = numberOf answer; values = [] }
+
+-- 15 and 16, or the ratio.
+abbrev pub hedgeAnswer : Hedge → Answer
+hedgeAnswer (Hedge.Millionths z) = Ratio z
+hedgeAnswer Hedge.Flat = Refused FlatHedge
+hedgeAnswer Hedge.OffScale = Refused OffScale
 
 abbrev pub accepted : Said → Bool
-accepted s = eqb (s .number) 0
+accepted said = eqb (said .number) 0

@@ -1,29 +1,22 @@
 // The walk over a sheet: open, back, value, hedge ratio and forward, each with every refusal. No call asks anything of its caller.
 ghost use mathlib.Core.Path.{_≡_};
-ghost use Rattle.sheet.specs.Brought.{brought};
+ghost use Rattle.sheet.specs.Spans.{broughtIn};
 ghost use Rattle.walk.specs.Answers;
-ghost use Rattle.walk.specs.Lists.{same, opening, back, value};
-ghost use Rattle.walk.specs.Does.{Hedges, Forwards};
-ghost use Rattle.walk.specs.Ours.{moved, filled};
-ghost use Rattle.walk.specs.Tied.{Promised};
-ghost use Rattle.walk.specs.Calls.{
-  replied,
-  filledBy,
-  rowsOf,
-  openCall,
-  backCall,
-  valueCall,
-  ratioCall,
-  forwardCall,
-};
-use sheet::Found;
+ghost use Rattle.walk.specs.CallLists.{ownRows, opening, back, value};
+ghost use Rattle.walk.specs.CallRules.{RatioRule, ForwardRule};
+ghost use Rattle.walk.specs.OurEngine.{walkResult, forwardResult};
+ghost use Rattle.walk.specs.Contracts.{Promised};
+ghost use Rattle.rows.specs.Rows.{rowsOf};
+ghost use Rattle.walk.specs.Calls.{replied, forwardOutcome, openCall, backCall, valueCall, ratioCall, forwardCall};
+use checks::Found;
+pub use checks::Refusal;
 pub use sheet::Pool;
-pub use sheet::Refusal;
+pub use sheet::Sheet;
 
-mod checks; // checks.rt: the checks 1 to 12 in order
-mod figures; // figures.rt: what accepted calls read and write
+mod replies; // replies.rt: what accepted calls answer
 
-// A walk: whether it is open, the number of its sheet, and the step it stands at.
+// A walk: whether it is open, the number of its sheet, and the step it stands at. A fresh one is all zeros.
+#[repr(C)]
 pub struct Walk {
     pub open: bool,
     pub number: u8,
@@ -64,30 +57,21 @@ impl Walk {
     // Starts a walk at the last step, with both rows zero.
     pub fn open(
         mut self,
-        pool: Pool,
-        attachments: &[u64],
-        hazards: &[u64],
-        discounts: &[u64],
-        accruals: &[u64],
-        coupons: &[u64],
+        sheet: Sheet,
+        numbers: &[u64],
         register: &[u8],
         defaults: &mut [u64],
         premiums: &mut [u64],
     ) -> Reply
-        ensures gives { λ r. ⌜ replied r (now (defaults .exit)) (now (premiums .exit)) ≡ openCall (brought pool (now (attachments .entry)) (now (hazards .entry)) (now (discounts .entry)) (now (accruals .entry)) (now (coupons .entry))) (now (register .entry)) self (rowsOf (now (defaults .entry)) (now (premiums .entry))) ⌝ }
-        ensures promised { λ r. ⌜ Promised (brought pool (now (attachments .entry)) (now (hazards .entry)) (now (discounts .entry)) (now (accruals .entry)) (now (coupons .entry))) (now (register .entry)) self (rowsOf (now (defaults .entry)) (now (premiums .entry))) (opening (pool .number) same) (replied r (now (defaults .exit)) (now (premiums .exit))) ⌝ }
+        ensures gives { λ r. ⌜ replied r (now (defaults .exit)) (now (premiums .exit))
+            ≡ openCall (broughtIn sheet (now (numbers .entry))) (now (register .entry)) self
+            (rowsOf (now (defaults .entry)) (now (premiums .entry))) ⌝ }
+        ensures promised { λ r. ⌜ Promised (broughtIn sheet (now (numbers .entry))) (now (register .entry)) self
+            (rowsOf (now (defaults .entry)) (now (premiums .entry)))
+            (opening (sheet .pool .number) ownRows) (replied r (now (defaults .exit)) (now (premiums .exit))) ⌝ }
     {
-        let lent = checks::rows_differ(pool, register, defaults, premiums);
-        let found = checks::to_ten(
-            pool,
-            attachments,
-            hazards,
-            discounts,
-            accruals,
-            coupons,
-            register,
-            lent,
-        );
+        let lent = admission::rows_differ(sheet.pool, register, defaults, premiums);
+        let found = admission::to_ten(sheet, numbers, register, lent);
         if let Found::Refused(f) = found {
             return Reply {
                 answer: Answer::Refused(f),
@@ -97,8 +81,8 @@ impl Walk {
         figures::clear(defaults);
         figures::clear(premiums);
         self.open = true;
-        self.number = pool.number;
-        self.position = pool.steps;
+        self.number = sheet.pool.number;
+        self.position = sheet.pool.steps;
         Reply {
             answer: Answer::Done,
             walk: self,
@@ -108,28 +92,26 @@ impl Walk {
     // Takes both rows count steps back.
     pub fn back(
         mut self,
-        pool: Pool,
-        attachments: &[u64],
-        hazards: &[u64],
-        discounts: &[u64],
-        accruals: &[u64],
-        coupons: &[u64],
+        sheet: Sheet,
+        numbers: &[u64],
         register: &[u8],
         defaults: &mut [u64],
         premiums: &mut [u64],
         count: usize,
     ) -> Reply
-        ensures gives { λ r. ⌜ replied r (now (defaults .exit)) (now (premiums .exit)) ≡ backCall (brought pool (now (attachments .entry)) (now (hazards .entry)) (now (discounts .entry)) (now (accruals .entry)) (now (coupons .entry))) (now (register .entry)) self (rowsOf (now (defaults .entry)) (now (premiums .entry))) count ⌝ }
-        ensures promised { λ r. ⌜ Promised (brought pool (now (attachments .entry)) (now (hazards .entry)) (now (discounts .entry)) (now (accruals .entry)) (now (coupons .entry))) (now (register .entry)) self (rowsOf (now (defaults .entry)) (now (premiums .entry))) (back (pool .number) same count) (replied r (now (defaults .exit)) (now (premiums .exit))) ⌝ }
+        ensures gives { λ r. ⌜ replied r (now (defaults .exit)) (now (premiums .exit))
+            ≡ backCall (broughtIn sheet (now (numbers .entry))) (now (register .entry)) self
+            (rowsOf (now (defaults .entry)) (now (premiums .entry))) count ⌝ }
+        ensures promised { λ r. ⌜ Promised (broughtIn sheet (now (numbers .entry))) (now (register .entry)) self
+            (rowsOf (now (defaults .entry)) (now (premiums .entry)))
+            (back (sheet .pool .number) ownRows count) (replied r (now (defaults .exit)) (now (premiums .exit))) ⌝ }
     {
-        let found = checks::to_twelve(
-            self,
-            pool,
-            attachments,
-            hazards,
-            discounts,
-            accruals,
-            coupons,
+        let found = admission::to_twelve(
+            self.open,
+            self.number,
+            self.position,
+            sheet,
+            numbers,
             register,
             defaults,
             premiums,
@@ -147,17 +129,7 @@ impl Walk {
                 walk: self,
             };
         }
-        backward::walk_back(
-            pool,
-            attachments,
-            hazards,
-            discounts,
-            accruals,
-            defaults,
-            premiums,
-            position,
-            count,
-        );
+        backward::walk_back(sheet, numbers, defaults, premiums, position, count);
         self.position = position - count;
         Reply {
             answer: Answer::Position(position - count),
@@ -168,29 +140,27 @@ impl Walk {
     // D, A and W of a tranche at a count.
     pub fn value(
         self,
-        pool: Pool,
-        attachments: &[u64],
-        hazards: &[u64],
-        discounts: &[u64],
-        accruals: &[u64],
-        coupons: &[u64],
+        sheet: Sheet,
+        numbers: &[u64],
         register: &[u8],
         defaults: &[u64],
         premiums: &[u64],
         tranche: usize,
         count: usize,
     ) -> Reply
-        ensures gives { λ r. ⌜ replied r (now (defaults .entry)) (now (premiums .entry)) ≡ valueCall (brought pool (now (attachments .entry)) (now (hazards .entry)) (now (discounts .entry)) (now (accruals .entry)) (now (coupons .entry))) (now (register .entry)) self (rowsOf (now (defaults .entry)) (now (premiums .entry))) tranche count ⌝ }
-        ensures promised { λ r. ⌜ Promised (brought pool (now (attachments .entry)) (now (hazards .entry)) (now (discounts .entry)) (now (accruals .entry)) (now (coupons .entry))) (now (register .entry)) self (rowsOf (now (defaults .entry)) (now (premiums .entry))) (value (pool .number) same tranche count) (replied r (now (defaults .entry)) (now (premiums .entry))) ⌝ }
+        ensures gives { λ r. ⌜ replied r (now (defaults .entry)) (now (premiums .entry))
+            ≡ valueCall (broughtIn sheet (now (numbers .entry))) (now (register .entry)) self
+            (rowsOf (now (defaults .entry)) (now (premiums .entry))) tranche count ⌝ }
+        ensures promised { λ r. ⌜ Promised (broughtIn sheet (now (numbers .entry))) (now (register .entry)) self
+            (rowsOf (now (defaults .entry)) (now (premiums .entry)))
+            (value (sheet .pool .number) ownRows tranche count) (replied r (now (defaults .entry)) (now (premiums .entry))) ⌝ }
     {
-        let found = checks::to_twelve(
-            self,
-            pool,
-            attachments,
-            hazards,
-            discounts,
-            accruals,
-            coupons,
+        let found = admission::to_twelve(
+            self.open,
+            self.number,
+            self.position,
+            sheet,
+            numbers,
             register,
             defaults,
             premiums,
@@ -201,20 +171,20 @@ impl Walk {
                 walk: self,
             };
         }
-        if pool.tranches < tranche {
+        if sheet.pool.tranches < tranche {
             return Reply {
                 answer: Answer::Refused(Refusal::OffTree),
                 walk: self,
             };
         }
-        if pool.names < count {
+        if sheet.pool.names < count {
             return Reply {
                 answer: Answer::Refused(Refusal::OffTree),
                 walk: self,
             };
         }
         Reply {
-            answer: figures::worth_at(pool, coupons, defaults, premiums, tranche, count),
+            answer: replies::worth_at(sheet, numbers, defaults, premiums, tranche, count),
             walk: self,
         }
     }
@@ -222,29 +192,27 @@ impl Walk {
     // The ratio of a tranche's jump to the index's at a count, in millionths.
     pub fn hedge_ratio(
         self,
-        pool: Pool,
-        attachments: &[u64],
-        hazards: &[u64],
-        discounts: &[u64],
-        accruals: &[u64],
-        coupons: &[u64],
+        sheet: Sheet,
+        numbers: &[u64],
         register: &[u8],
         defaults: &[u64],
         premiums: &[u64],
         tranche: usize,
         count: usize,
     ) -> Reply
-        ensures gives { λ r. ⌜ replied r (now (defaults .entry)) (now (premiums .entry)) ≡ ratioCall (brought pool (now (attachments .entry)) (now (hazards .entry)) (now (discounts .entry)) (now (accruals .entry)) (now (coupons .entry))) (now (register .entry)) self (rowsOf (now (defaults .entry)) (now (premiums .entry))) tranche count ⌝ }
-        ensures rule { λ r. ⌜ Hedges (brought pool (now (attachments .entry)) (now (hazards .entry)) (now (discounts .entry)) (now (accruals .entry)) (now (coupons .entry))) (now (register .entry)) self (rowsOf (now (defaults .entry)) (now (premiums .entry))) tranche count (moved (replied r (now (defaults .entry)) (now (premiums .entry)))) ⌝ }
+        ensures gives { λ r. ⌜ replied r (now (defaults .entry)) (now (premiums .entry))
+            ≡ ratioCall (broughtIn sheet (now (numbers .entry))) (now (register .entry)) self
+            (rowsOf (now (defaults .entry)) (now (premiums .entry))) tranche count ⌝ }
+        ensures rule { λ r. ⌜ RatioRule (broughtIn sheet (now (numbers .entry))) (now (register .entry)) self
+            (rowsOf (now (defaults .entry)) (now (premiums .entry))) tranche count
+            (walkResult (replied r (now (defaults .entry)) (now (premiums .entry)))) ⌝ }
     {
-        let found = checks::to_twelve(
-            self,
-            pool,
-            attachments,
-            hazards,
-            discounts,
-            accruals,
-            coupons,
+        let found = admission::to_twelve(
+            self.open,
+            self.number,
+            self.position,
+            sheet,
+            numbers,
             register,
             defaults,
             premiums,
@@ -255,38 +223,23 @@ impl Walk {
                 walk: self,
             };
         }
-        if pool.tranches < tranche {
+        if sheet.pool.tranches < tranche {
             return Reply {
                 answer: Answer::Refused(Refusal::OffTree),
                 walk: self,
             };
         }
-        if pool.names <= count {
+        if sheet.pool.names <= count {
             return Reply {
                 answer: Answer::Refused(Refusal::OffTree),
                 walk: self,
             };
         }
-        let own = figures::jump_at(
-            pool,
-            attachments,
-            coupons,
-            defaults,
-            premiums,
-            tranche,
-            count,
-        );
-        let index = figures::jump_at(
-            pool,
-            attachments,
-            coupons,
-            defaults,
-            premiums,
-            pool.tranches,
-            count,
-        );
+        let own = figures::jump_at(sheet, numbers, defaults, premiums, tranche, count);
+        let last = sheet.pool.tranches;
+        let index = figures::jump_at(sheet, numbers, defaults, premiums, last, count);
         Reply {
-            answer: figures::ratio_of(own, index),
+            answer: replies::ratio_of(own, index),
             walk: self,
         }
     }
@@ -294,36 +247,26 @@ impl Walk {
 
 // The distribution of the default count after so many steps, from no default.
 pub fn forward(
-    pool: Pool,
-    attachments: &[u64],
-    hazards: &[u64],
-    discounts: &[u64],
-    accruals: &[u64],
-    coupons: &[u64],
+    sheet: Sheet,
+    numbers: &[u64],
     register: &[u8],
     row: &mut [u64],
     steps: usize,
 ) -> Answer
-    ensures gives { λ r. ⌜ filledBy r (now (row .exit)) ≡ forwardCall (brought pool (now (attachments .entry)) (now (hazards .entry)) (now (discounts .entry)) (now (accruals .entry)) (now (coupons .entry))) (now (register .entry)) (now (row .entry)) steps ⌝ }
-    ensures rule { λ r. ⌜ Forwards (brought pool (now (attachments .entry)) (now (hazards .entry)) (now (discounts .entry)) (now (accruals .entry)) (now (coupons .entry))) (now (register .entry)) (now (row .entry)) steps (filled (filledBy r (now (row .exit)))) ⌝ }
+    ensures gives { λ r. ⌜ forwardOutcome r (now (row .exit))
+        ≡ forwardCall (broughtIn sheet (now (numbers .entry))) (now (register .entry)) (now (row .entry)) steps ⌝ }
+    ensures rule { λ r. ⌜ ForwardRule (broughtIn sheet (now (numbers .entry))) (now (register .entry))
+        (now (row .entry)) steps (forwardResult (forwardOutcome r (now (row .exit)))) ⌝ }
 {
-    let lent = checks::row_differs(pool, register, row);
-    let found = checks::to_ten(
-        pool,
-        attachments,
-        hazards,
-        discounts,
-        accruals,
-        coupons,
-        register,
-        lent,
-    );
+    let lent = admission::row_differs(sheet.pool, register, row);
+    let found = admission::to_ten(sheet, numbers, register, lent);
     if let Found::Refused(f) = found {
         return Answer::Refused(f);
     }
-    if pool.steps < steps {
+    if sheet.pool.steps < steps {
         return Answer::Refused(Refusal::OutOfSteps);
     }
-    forward::spread(pool, hazards, row, steps);
+    let hazards = sheet::part(sheet.hazards, numbers);
+    forward::distribute(hazards, row, steps);
     Answer::Done
 }

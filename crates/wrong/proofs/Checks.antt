@@ -1,4 +1,4 @@
--- No engine with a wrong check keeps to the rules: they admit ours alone, which answers the call that shows the fault otherwise. Assumes nothing.
+-- No engine with a wrong check keeps to the rules: they admit ours alone, which answers the call that shows the fault otherwise.
 use Prim.Native.Nat.{ℕ, zero, suc, pred, _-_}
 use mathlib.Core.Path.{_≡_, refl, sym, _∙_, ap, subst}
 use mathlib.Core.Bool.{Bool, true, false, not, _&&_, _||_, true≢false}
@@ -10,29 +10,28 @@ use lib.IntN.{ℤ}
 use borrow.Author.Tests.{eqb-true, eqb-false, not-true}
 use Rattle.cash.specs.Hedges.{ratioOf}
 use Rattle.register.proofs.Masks.{both}
-use Rattle.tree.specs.Sheet.{sumOf, defaultMost, premiumMost}
+use Rattle.sheet.specs.Terms.{sumOf}
+use Rattle.tree.specs.Sheet.{defaultMost, premiumMost}
 use Rattle.rows.specs.Tables.{any}
 use Rattle.sheet.specs.Brought.{Brought}
-use Rattle.sheet.specs.declared.Refusal.{Refusal}
-use Rattle.sheet.specs.declared.Refusal.the-variants.{Pool}
-use Rattle.sheet.specs.Refusals.{refusalNumber}
+use Rattle.checks.specs.declared.Refusal.{Refusal}
+use Rattle.checks.specs.declared.Refusal.the-variants.{Pool}
+use Rattle.checks.specs.Refusals.{refusalNumber}
 use Rattle.lists.specs.Outside.{outside}
-use Rattle.sheet.specs.Tests.{poolBad, Test, first}
+use Rattle.checks.specs.Tests.{poolBad, Test, first}
 use Rattle.walk.specs.declared.Walk.{Walk}
 use Rattle.walk.specs.declared.Answer.the-variants as Answer
-use Rattle.walk.specs.Answers.{Rows}
-use Rattle.walk.specs.Does.{Moved}
-use Rattle.walk.specs.Table.{jump}
+use Rattle.rows.specs.Rows.{Rows}
+use Rattle.walk.specs.CallRules.{WalkResult}
+use Rattle.figures.specs.Nodes.{jump}
 use Rattle.walk.specs.Calls.{ratioTests, orOutcome}
 use Rattle.walk.specs.Engine.{Engine}
-use Rattle.walk.specs.Promise.{Rules, Demand3}
-use Rattle.walk.specs.Ours.{moved, ours}
-use Rattle.walk.proofs.One.{only-one}
+use Rattle.walk.specs.Promise.{Demand3}
+use Rattle.walk.specs.OurEngine.{walkResult, ours}
+use Rattle.walk.proofs.Uniqueness.{only-one}
 use Rattle.wrong.specs.Substitutes.{ratioBy}
-use Rattle.wrong.specs.Checks.{SheetCall, Open, Back, Value, Ratio, Forward, Inputs, answered, tests, RuledOut, judging, skipping, exchanging, checks}
-use Rattle.wrong.specs.Checks.{has, breakable, brokenFrom, places, oneWay, resized, openedClosed, openedElsewhere, openedShort, NoneChecks}
-use Rattle.wrong.specs.Checks.{replaced, tested, accrualsIn, positionTo, ceilingsTo, nodesTo, Unmoved}
-use Rattle.wrong.specs.Examples.{deck, listing}
+use Rattle.wrong.specs.Checks.{SheetCall, Open, Back, Value, Ratio, Forward, Inputs, answered, tests, RuledOut, judging, skipping, exchanging, checks, has, breakable, brokenFrom, places, oneWay, resized, openedClosed, openedElsewhere, openedShort, NoneChecks, replaced, tested, accrualsIn, positionTo, ceilingsTo, nodesTo, Unmoved}
+use Rattle.wrong.specs.Examples.{deck, answersOf}
 use Rattle.wrong.proofs.Computing.{computed}
 use Rattle.wrong.proofs.Refuted.{found, opened}
 
@@ -159,7 +158,7 @@ unfolding computed
 not-openedShort d = omega (arith, ap (λ (w : Walk). w .position) (found d deck (opened []) 0 refl refl refl .walk))
 
 pub none-checks : NoneChecks
-unfolding computed listing
+unfolding computed answersOf
 none-checks =
     record {
       unchanged = unchanged;
@@ -281,7 +280,7 @@ later (t ∷ l) = l
 -- Above n - 1 is from n on, unless n is 0, which is refused with 1.
 module _ (x : Brought) (g : List ℕ) (w : Walk) (l : Rows) (j k : ℕ) where
   -- by another test of 14
-  abbrev off : Bool → Moved
+  abbrev off : Bool → WalkResult
   off b = tested 14 (λ a. ltb (x .sheet .tranches) j || b) Ratio .ratio x g w l j k
 
   ratio-at : (n : ℕ) → x .sheet .names ≡ n → off (ltb (x .sheet .names - 1) k) ≡ off (leb (x .sheet .names) k)
@@ -290,7 +289,7 @@ module _ (x : Brought) (g : List ℕ) (w : Walk) (l : Rows) (j k : ℕ) where
       let bad : poolBad (x .sheet) ≡ true = ap (λ n. outside 1 125 n || outside 1 3650 (x .sheet .steps) || outside 1 8 (x .sheet .tranches)) e in
       let rest : Bool → List Test = λ b. later (replaced 14 (ltb (x .sheet .tranches) j || b) (ratioTests x g w l j k)) in
       let r : ℤ = ratioOf (jump x l j k) (jump x l (x .sheet .tranches) k) in
-      ap (λ s. moved (orOutcome s w l (record { answer = Answer.Ratio r; walk = w; rows = l })))
+      ap (λ s. walkResult (orOutcome s w l (record { answer = Answer.Ratio r; walk = w; rows = l })))
       (met (poolBad (x .sheet)) bad Pool (rest (ltb (x .sheet .names - 1) k)) (rest (leb (x .sheet .names) k)))
   ratio-at (suc n) e = ap (λ m. off (leb m k)) (omega (arith, e))
 

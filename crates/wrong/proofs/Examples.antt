@@ -1,26 +1,26 @@
--- The examples, by computation. Assumes nothing.
+-- The examples, by computation.
 use mathlib.Core.Path.{refl}
 use mathlib.Core.Bool.{false}
 use Rattle.tree.specs.Sheet.{spanning}
-use Rattle.sheet.proofs.Limits.{limits}
-use Rattle.walk.specs.Promises.{found, leaves, withdrew, afterAll, everWithdrew}
-use Rattle.wrong.specs.Examples.{deck as deckBook, parted, listing, Deck, Additive, Refusals, Ratios, Cuts}
+use Rattle.checks.proofs.Limits.{limits}
+use Rattle.walk.specs.Power.{registerAfterCut, eventLeaves, withdrew, stateAfterEvents, everWithdrew}
+use Rattle.wrong.specs.Examples.{deck as deckCatalogue, parted, answersOf, Deck, TranchesAdd, Refusals, Ratios, Cuts}
 use Rattle.wrong.proofs.Computing.{computed}
 
 pub deck : Deck
-unfolding computed listing
+unfolding computed answersOf
 deck =
     record {
-      within = limits (deckBook .sheet 7) false .0 refl .0;
+      within = limits (deckCatalogue .sheet 7) false .0 refl .0;
       listing = refl;
       walked = record { opened = refl; walked = refl; own = refl };
       rows = refl;
       tranche-ratio = refl;
       index-ratio = refl;
-      spread = refl;
+      distribution = refl;
     }
 
-pub additive : Additive
+pub additive : TranchesAdd
 unfolding computed spanning
 additive =
     record {
@@ -35,7 +35,7 @@ additive =
     }
 
 pub refusals : Refusals
-unfolding computed listing
+unfolding computed answersOf
 refusals =
     record {
       listing = refl;
@@ -57,7 +57,7 @@ unfolding computed
 ratios = record { negative = refl; both-negative = refl; half-away = refl; half-away-below = refl; no-minus-zero = refl; flat = refl; off-scale = refl; last-count = refl }
 
 pub cuts : Cuts
-unfolding computed found leaves withdrew afterAll everWithdrew
+unfolding computed registerAfterCut eventLeaves withdrew stateAfterEvents everWithdrew
 cuts =
     record {
       can-be = refl;

@@ -1,4 +1,4 @@
--- No engine of specs/Figures.antt keeps the promise, and the bounds need their factor: by computation on small sheets. Assumes nothing.
+-- No engine of specs/Figures.antt keeps the promise, and the bounds need their factor: by computation on small sheets.
 use Prim.Native.Nat.{ℕ, _-_}
 use mathlib.Core.Path.{_≡_, refl, ap}
 use mathlib.Core.Bool.{true, false}
@@ -11,35 +11,31 @@ use Rattle.tree.specs.Forward.{lands, probability, apart, errors}
 use Rattle.tree.specs.Sheet.{spanning}
 use Rattle.tree.specs.Trials.{drifting}
 use Rattle.sheet.specs.Brought.{Brought, brought}
-use Rattle.sheet.proofs.Limits.{limits}
-use Rattle.walk.specs.Answers.{Rows, accepted}
-use Rattle.walk.specs.Does.{Stepped}
+use Rattle.checks.proofs.Limits.{limits}
+use Rattle.rows.specs.Rows.{Rows}
+use Rattle.walk.specs.Answers.{accepted}
+use Rattle.walk.specs.CallRules.{BackStep}
 use Rattle.walk.specs.Engine.{Engine}
-use Rattle.walk.specs.Lists.{same, other, issue, opening, back, Book, Run, end, went, turn, answers}
-use Rattle.walk.specs.Promises.{Ruled}
+use Rattle.walk.specs.CallLists.{ownRows, otherRows, issue, opening, back, Catalogue, Run, end, afterWalkCall, callResult, answers}
+use Rattle.walk.specs.Liveness.{CallRule}
 use Rattle.walk.specs.Promise.{Rules, Demand3, blankRun}
-use Rattle.wrong.specs.Examples.{bookOf, filled, deck, used, toRoot, parted, whole, elsewhere, live, walkAt}
-use Rattle.wrong.specs.Figures.{rowBy, spreadBy, recoveryIgnored, discountBefore, accrualBefore, premiumEveryStep, movesExchanged}
-use Rattle.wrong.specs.Figures.{hazardOfNext, pastLastCount, legsExchanged, defaultUnpaid, defaultInPremiums, premiumInDefaults, lowerIgnored}
-use Rattle.wrong.specs.Figures.{lossUncapped, lossRoundedUp, indexRoundedDown, premiumAfterRoll, premiumAfterChance, netFactorShort}
-use Rattle.wrong.specs.Figures.{netLegsExchanged, netReversed, defaultForPremium, lossReversed, defaultReversed, premiumReversed}
-use Rattle.wrong.specs.Figures.{premiumLeftOut, trancheCoupon, tenThousandths, halfToEven, movesDown, halfMovesDown, movesPastLast, movesLost}
-use Rattle.wrong.specs.Figures.{nothingMoves, fromLentRow, NoneFigures, Unchanged, unitsBook, FactorNeeded, NamesNeeded}
+use Rattle.wrong.specs.Examples.{catalogueOf, constantRows, deck, used, toRoot, parted, whole, elsewhere, live, walkAt}
+use Rattle.wrong.specs.Figures.{rowBy, distributionBy, recoveryIgnored, discountBefore, accrualBefore, premiumEveryStep, movesExchanged, hazardOfNext, pastLastCount, legsExchanged, defaultUnpaid, defaultInPremiums, premiumInDefaults, lowerIgnored, lossUncapped, lossRoundedUp, indexRoundedDown, premiumAfterRoll, premiumAfterChance, netFactorShort, netLegsExchanged, netReversed, defaultForPremium, lossReversed, defaultReversed, premiumReversed, premiumLeftOut, trancheCoupon, tenThousandths, halfToEven, movesDown, halfMovesDown, movesPastLast, movesLost, nothingMoves, fromLentRow, NoneFigures, Unchanged, unitsCatalogue, FactorNeeded, NamesNeeded}
 use Rattle.wrong.proofs.Computing.{computed}
-use Rattle.wrong.proofs.Refuted.{figure, found, stepped, sheet}
+use Rattle.wrong.proofs.Refuted.{figure, found, back-step, sheet}
 
 -- ---- back
 
 -- A sheet opened with rows of n entries.
-abbrev opens : Book → ℕ → Run
-opens k n = blankRun k used (issue 7 ∷ opening 7 (other (filled n 0)) ∷ [])
+abbrev opens : Catalogue → ℕ → Run
+opens k n = blankRun k used (issue 7 ∷ opening 7 (otherRows (constantRows n 0)) ∷ [])
 
 -- Demand 3 has a back by 1 keep to the rule, entry by entry.
-by-one : {e : Engine} → Demand3 e → (k : Book) (n : ℕ) → accepted (answers e (opens k n) (back 7 same 1)) ≡ true →
-    Stepped (k .sheet 7 .sheet) (end e (opens k n) .walk .position - 1) (end e (opens k n) .rows)
-    (turn e (k .sheet) (end e (opens k n)) (back 7 same 1) .state .rows)
-unfolding blankRun Ruled turn went
-by-one d k n p = stepped _ _ _ _ (d k used _ .serves .ruled (back 7 same 1) .does p .rows)
+by-one : {e : Engine} → Demand3 e → (k : Catalogue) (n : ℕ) → accepted (answers e (opens k n) (back 7 ownRows 1)) ≡ true →
+    BackStep (k .sheet 7 .sheet) (end e (opens k n) .walk .position - 1) (end e (opens k n) .rows)
+    (callResult e (k .sheet) (end e (opens k n)) (back 7 ownRows 1) .state .rows)
+unfolding blankRun CallRule callResult afterWalkCall
+by-one d k n p = back-step _ _ _ _ (d k used _ .serves .ruled (back 7 ownRows 1) .does p .rows)
 
 not-recoveryIgnored : Demand3 recoveryIgnored → ⊥
 unfolding computed rowBy
@@ -111,8 +107,8 @@ not-premiumAfterRoll d = omega (arith, by-one d deck 6 refl .premium 0 0 (lit≤
 not-premiumAfterChance : Demand3 premiumAfterChance → ⊥
 unfolding computed rowBy
 not-premiumAfterChance d =
-    let l = issue 7 ∷ opening 7 (other (filled 8 0)) ∷ back 7 same 1 ∷ [] in
-    omega (arith, stepped _ _ _ _ (d whole used l .serves .ruled (back 7 same 1) .does refl .rows) .premium 1 0 (lit≤ tt) (lit≤ tt))
+    let l = issue 7 ∷ opening 7 (otherRows (constantRows 8 0)) ∷ back 7 ownRows 1 ∷ [] in
+    omega (arith, back-step _ _ _ _ (d whole used l .serves .ruled (back 7 ownRows 1) .does refl .rows) .premium 1 0 (lit≤ tt) (lit≤ tt))
 
 -- ---- value
 
@@ -176,19 +172,19 @@ halves =
     (0 ∷ 5 ∷ []) (50_000 ∷ []) (1 ∷ 1 ∷ []) (1 ∷ 1 ∷ []) (0 ∷ 0 ∷ [])
 
 not-movesDown : Rules movesDown → ⊥
-unfolding computed spreadBy
+unfolding computed distributionBy
 not-movesDown r = omega (arith, r .forward halves live (replicate 2 0) 2 .does refl .row 1 (lit≤ tt))
 
 not-halfMovesDown : Rules halfMovesDown → ⊥
-unfolding computed spreadBy
+unfolding computed distributionBy
 not-halfMovesDown r = omega (arith, r .forward halves live (replicate 2 0) 2 .does refl .row 1 (lit≤ tt))
 
 not-movesPastLast : Rules movesPastLast → ⊥
-unfolding computed spreadBy
+unfolding computed distributionBy
 not-movesPastLast r = omega (arith, r .forward halves live (replicate 2 0) 2 .does refl .row 1 (lit≤ tt))
 
 not-movesLost : Rules movesLost → ⊥
-unfolding computed spreadBy sumTo
+unfolding computed distributionBy sumTo
 not-movesLost r = omega (arith, r .forward sheet live (replicate 3 0) 1 .does refl .total)
 
 not-nothingMoves : Rules nothingMoves → ⊥
@@ -196,7 +192,7 @@ unfolding computed sumTo lands probability apart
 not-nothingMoves r = le→leb _ _ (r .forward sheet live (replicate 3 0) 1 .does refl .near)
 
 not-fromLentRow : Rules fromLentRow → ⊥
-unfolding computed spreadBy sumTo
+unfolding computed distributionBy sumTo
 not-fromLentRow r = omega (arith, r .forward sheet live (replicate 3 0) 1 .does refl .total)
 
 pub none-figures : NoneFigures
@@ -239,7 +235,7 @@ none-figures =
     }
 
 pub unchanged : Unchanged
-unfolding computed rowBy spreadBy
+unfolding computed rowBy distributionBy
 unchanged = record { sheet = refl; chances = refl; legs = refl; losses = refl; nets = refl; jumps = refl; sizes = refl; moves = refl }
 
 -- ---- bounds
@@ -248,7 +244,7 @@ pub factor-needed : FactorNeeded
 unfolding computed spanning sumTo
 factor-needed =
     record {
-      within = limits (unitsBook .sheet 5) false .0 refl .0;
+      within = limits (unitsCatalogue .sheet 5) false .0 refl .0;
       walked = record { opened = refl; walked = refl; own = refl };
       spanned-walked = record { opened = refl; walked = refl; own = refl };
       dates = refl;
@@ -258,4 +254,4 @@ factor-needed =
 
 pub names-needed : NamesNeeded
 unfolding computed sumTo lands probability apart errors
-names-needed = record { within = limits (bookOf drifting (replicate 2 0) .sheet 7) false .0 refl .0; errors = λ n. le→leb _ _ n }
+names-needed = record { within = limits (catalogueOf drifting (replicate 2 0) .sheet 7) false .0 refl .0; errors = λ n. le→leb _ _ n }

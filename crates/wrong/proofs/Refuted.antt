@@ -1,4 +1,4 @@
--- No wrong engine keeps the promise: a list of calls on a small sheet, and the part of the promise that fails where it ends. Assumes nothing.
+-- No wrong engine keeps the promise: a list of calls on a small sheet, and the part of the promise that fails where it ends.
 use Prim.Native.Nat.{ℕ, _+_, _-_, _*_}
 use mathlib.Core.Path.{_≡_, refl, sym, ap, subst}
 use mathlib.Core.Bool.{Bool, true, false, cond, true≢false}
@@ -10,21 +10,23 @@ use lib.ListN.{length, replicate, getD, set}
 use lib.Dec.{T, eqb, eqb-refl, le→leb, lit≤}
 use lib.IntN.{ℤ, pos, negsuc}
 use Rattle.register.specs.Rules.{Unissued, Live}
-use Rattle.register.specs.Events.{blank}
-use Rattle.tree.specs.Sheet.{Sheet}
-use Rattle.tree.specs.Trials.{worked, uneven}
+use Rattle.register.specs.Events.{blankRegister}
+use Rattle.sheet.specs.Terms.{Terms}
+use Rattle.tree.specs.Trials.{worked, unevenPool}
 use Rattle.sheet.specs.Brought.{Brought}
 use Rattle.walk.specs.declared.Walk.{Walk}
-use Rattle.walk.specs.Answers.{Rows, fresh, Said}
-use Rattle.walk.specs.Table.{Order, Judges}
-use Rattle.walk.specs.Does.{Stepped, Walks}
+use Rattle.rows.specs.Rows.{Rows}
+use Rattle.walk.specs.Answers.{fresh, Said}
+use Rattle.walk.specs.RefusalOrders.{RefusalOrder, Judges}
+use Rattle.walk.specs.CallRules.{BackStep, BackSteps}
 use Rattle.walk.specs.Engine.{Engine}
-use Rattle.walk.specs.Lists.{same, other, Call, issue, withdraw, opening, back, value, State, Book, blankState, history}
-use Rattle.walk.specs.Promises.{call, Event, returned, leaves, withdrew, afterAll, everWithdrew, Found}
+use Rattle.walk.specs.CallLists.{ownRows, otherRows, Call, issue, withdraw, opening, back, value, State, Catalogue, blankState, history}
+use Rattle.walk.specs.Power.{call, Event, returned, eventLeaves, withdrew, stateAfterEvents, everWithdrew}
+use Rattle.walk.specs.Accuracy.{WalkAccuracy}
 use Rattle.walk.specs.Promise.{Rules, Demand3, blankRun}
 use Rattle.wrong.specs.Substitutes.{alwaysLive, issuedAgain, byteLeft, bitsSet, otherByteWritten, refusedStores, allRefused, exchangedNumbers, withdrawnFirst, notCleared, refusedZeroes, refusedCloses, unissuedTaken, otherLength, zeroAlone, rowsLeft, oneFigure, rootAtOnce, oneRounding, roundedDown, countBefore, premiumRoundedDown, indexByLoss, positionMadeUp, stepEarly, zeroRefused, refusedMoves, closedAtRoot, oneAnswer, firstCoupon, netUnsigned, valueZeroes, withdrawnAnswered, valueZeroAlone, refusedTells, walkAbove, upsideDown, signLost, restCut, halfUpwards, paymentLost, flatForScale, ratioAnswered, stepShort, inPlace, refusedWrites, forwardAnswered}
 use Rattle.wrong.specs.Refuted.{ceilingsPassed, Power, Clearing, NoneKeeps}
-use Rattle.wrong.specs.Examples.{bookOf, filled, deck, used, toRoot, whole, elsewhere, live, walkAt}
+use Rattle.wrong.specs.Examples.{catalogueOf, constantRows, deck, used, toRoot, whole, elsewhere, live, walkAt}
 use Rattle.wrong.proofs.Computing.{computed}
 
 -- ---- what an order says of an answer
@@ -46,24 +48,24 @@ rest true P Q h = h .1
 rest false P Q h = h
 
 -- The rule numbered m, where it stands before a rule numbered n.
-abbrev Earlier : Order → ℕ → ℕ → Type 0
+abbrev Earlier : RefusalOrder → ℕ → ℕ → Type 0
 Earlier [] m n = Unit {0}
 Earlier (t ∷ l) m n = cond (eqb (t .1) n) (Unit {0}) (cond (eqb (t .1) m) (t .0) (Earlier l m n))
 
 -- It is kept by a call that is answered n.
-kept : (l : Order) (a : Said) → Judges l a → (m : ℕ) → Earlier l m (a .number)
+kept : (l : RefusalOrder) (a : Said) → Judges l a → (m : ℕ) → Earlier l m (a .number)
 unfolding Judges
 kept [] a p m = tt
 kept (t ∷ l) a (inl (k, e)) m = subst (λ s. Earlier (t ∷ l) m (s .number)) (sym e) (passed (eqb (t .1) (t .1)) _ _ (eqb-refl (t .1)) tt)
 kept (t ∷ l) a (inr (p, q)) m = either (eqb (t .1) (a .number)) _ _ tt (either (eqb (t .1) m) _ _ p (kept l a q m))
 
 -- The rules numbered n.
-abbrev Own : Order → ℕ → Type 0
+abbrev Own : RefusalOrder → ℕ → Type 0
 Own [] n = Unit {0}
 Own (t ∷ l) n = cond (eqb (t .1) n) (t .0 × Own l n) (Own l n)
 
 -- A call that keeps them is not refused with n.
-own : (l : Order) (a : Said) → Judges l a → Own l (a .number) → a .number ≡ 0
+own : (l : RefusalOrder) (a : Said) → Judges l a → Own l (a .number) → a .number ≡ 0
 unfolding Judges
 own [] a p h = p
 own (t ∷ l) a (inl (k, e)) h = absurd (k (hit (eqb (t .1) (t .1)) _ _ (eqb-refl (t .1)) (subst (λ s. Own (t ∷ l) (s .number)) e h) .0))
@@ -80,11 +82,11 @@ figure i s = code (getD (s .values) i (pos 0))
 -- ---- lists
 
 abbrev pub opened : List Call → List Call
-opened l = issue 7 ∷ opening 7 (other used) ∷ l
+opened l = issue 7 ∷ opening 7 (otherRows used) ∷ l
 
 -- What demand 3 finds of a list that opens the number 7 and walks h steps back.
-pub found : {e : Engine} → Demand3 e → (k : Book) (l : List Call) (h : ℕ) → history e (blankRun k used l) .opened ≡ some 7 →
-    history e (blankRun k used l) .walked ≡ h → history e (blankRun k used l) .own ≡ true → Found e (blankRun k used l) (k .sheet 7) h
+pub found : {e : Engine} → Demand3 e → (k : Catalogue) (l : List Call) (h : ℕ) → history e (blankRun k used l) .opened ≡ some 7 →
+    history e (blankRun k used l) .walked ≡ h → history e (blankRun k used l) .own ≡ true → WalkAccuracy e (blankRun k used l) (k .sheet 7) h
 unfolding blankRun
 found d k l h p q r = d k used l .owed .found 7 h (record { opened = p; walked = q; own = r })
 
@@ -98,39 +100,39 @@ not-alwaysLive d = omega (arith, own _ _ (d deck used [] .serves .ruled (issue 7
 not-issuedAgain : Demand3 issuedAgain → ⊥
 unfolding computed
 not-issuedAgain d =
-    true≢false (d deck used (issue 7 ∷ withdraw 7 ∷ issue 7 ∷ opening 7 (other used) ∷ []) .owed .hidden 7 refl same 0 0 .refused)
+    true≢false (d deck used (issue 7 ∷ withdraw 7 ∷ issue 7 ∷ opening 7 (otherRows used) ∷ []) .owed .hidden 7 refl ownRows 0 0 .refused)
 
 not-byteLeft : Demand3 byteLeft → ⊥
 unfolding computed
-not-byteLeft d = true≢false (d deck used (opened (withdraw 7 ∷ [])) .owed .hidden 7 refl same 0 0 .refused)
+not-byteLeft d = true≢false (d deck used (opened (withdraw 7 ∷ [])) .owed .hidden 7 refl ownRows 0 0 .refused)
 
 -- Issued and withdrawn.
 abbrev ended : List Event
 ended = returned deck (call (issue 7)) ∷ returned deck (call (withdraw 7)) ∷ []
 
 not-issuedAgain-later : Power issuedAgain → ⊥
-unfolding computed everWithdrew withdrew leaves afterAll
+unfolding computed everWithdrew withdrew eventLeaves stateAfterEvents
 not-issuedAgain-later p = true≢false (p (blankState used) ended .shut 7 refl .issue .0 .refused)
 
 not-byteLeft-later : Power byteLeft → ⊥
-unfolding computed everWithdrew withdrew leaves afterAll
+unfolding computed everWithdrew withdrew eventLeaves stateAfterEvents
 not-byteLeft-later p = true≢false (p (blankState used) ended .shut 7 refl .withdraw .0 .refused)
 
 not-bitsSet-later : Power bitsSet → ⊥
-unfolding computed everWithdrew withdrew leaves afterAll
+unfolding computed everWithdrew withdrew eventLeaves stateAfterEvents
 not-bitsSet-later p = true≢false (p (blankState used) ended .shut 7 refl .issue .0 .refused)
 
 not-bitsSet : Clearing bitsSet → ⊥
 unfolding computed
-not-bitsSet p = true≢false (sym (p (set blank 7 0xA5) 7 .withdraw refl))
+not-bitsSet p = true≢false (sym (p (set blankRegister 7 0xA5) 7 .withdraw .byte refl))
 
 not-otherByteWritten : Clearing otherByteWritten → ⊥
 unfolding computed
-not-otherByteWritten p = omega (arith, p (set blank 0 0x00) 7 .issue-others 0 (λ e. omega (arith, e)))
+not-otherByteWritten p = omega (arith, p (set blankRegister 0 0x00) 7 .issue .others 0 (λ e. omega (arith, e)))
 
 not-refusedStores-byte : Clearing refusedStores → ⊥
 unfolding computed
-not-refusedStores-byte p = omega (arith, ap (λ (g : List ℕ). getD g 7 0) (p blank 7 .withdraw-refused refl))
+not-refusedStores-byte p = omega (arith, ap (λ (g : List ℕ). getD g 7 0) (p blankRegister 7 .withdraw .refused refl))
 
 not-refusedStores : Demand3 refusedStores → ⊥
 unfolding computed
@@ -139,9 +141,9 @@ not-refusedStores d = omega (arith, ap (λ (s : State). getD (s .register) 7 0) 
 -- ---- open
 
 -- One name, one step, one tranche.
-abbrev small : ℕ → List ℕ → Book
+abbrev small : ℕ → List ℕ → Catalogue
 small recovery attachments =
-    bookOf (record {
+    catalogueOf (record {
       names = 1;
       steps = 1;
       tranches = 1;
@@ -154,16 +156,16 @@ small recovery attachments =
 
 not-allRefused : Demand3 allRefused → ⊥
 unfolding computed
-not-allRefused d = omega (arith, own _ _ (d deck used (issue 7 ∷ []) .serves .ruled (opening 7 same) .judged) (omega arith, tt))
+not-allRefused d = omega (arith, own _ _ (d deck used (issue 7 ∷ []) .serves .ruled (opening 7 ownRows) .judged) (omega arith, tt))
 
 not-exchangedNumbers : Demand3 exchangedNumbers → ⊥
 unfolding computed
-not-exchangedNumbers d = omega (arith, own _ _ (d (small 0 (5 ∷ 5 ∷ [])) (filled 4 0) (issue 7 ∷ []) .serves .ruled (opening 7 same) .judged) (lit≤ tt, tt))
+not-exchangedNumbers d = omega (arith, own _ _ (d (small 0 (5 ∷ 5 ∷ [])) (constantRows 4 0) (issue 7 ∷ []) .serves .ruled (opening 7 ownRows) .judged) (lit≤ tt, tt))
 
 not-withdrawnFirst : Demand3 withdrawnFirst → ⊥
 unfolding computed
 not-withdrawnFirst d =
-    omega (arith, kept _ _ (d (small 1_000_000_001 (0 ∷ 5 ∷ [])) (filled 4 0) (issue 7 ∷ withdraw 7 ∷ []) .serves .ruled (opening 7 same) .judged) 3)
+    omega (arith, kept _ _ (d (small 1_000_000_001 (0 ∷ 5 ∷ [])) (constantRows 4 0) (issue 7 ∷ withdraw 7 ∷ []) .serves .ruled (opening 7 ownRows) .judged) 3)
 
 not-notCleared : Demand3 notCleared → ⊥
 unfolding computed
@@ -171,16 +173,16 @@ not-notCleared d = le→leb _ _ (found d deck (opened []) 0 refl refl refl .defa
 
 not-refusedZeroes : Demand3 refusedZeroes → ⊥
 unfolding computed
-not-refusedZeroes d = omega (arith, ap (λ (s : State). getD (s .rows .defaults) 0 0) (d deck used [] .serves .untouched (opening 7 same) refl))
+not-refusedZeroes d = omega (arith, ap (λ (s : State). getD (s .rows .defaults) 0 0) (d deck used [] .serves .untouched (opening 7 ownRows) refl))
 
 -- An open of a number never issued, while another is walked.
 not-refusedCloses : Demand3 refusedCloses → ⊥
 unfolding computed
-not-refusedCloses d = omega (arith, ap (λ (s : State). s .walk .position) (d deck used (opened []) .serves .untouched (opening 8 same) refl))
+not-refusedCloses d = omega (arith, ap (λ (s : State). s .walk .position) (d deck used (opened []) .serves .untouched (opening 8 ownRows) refl))
 
 not-unissuedTaken : Demand3 unissuedTaken → ⊥
 unfolding computed
-not-unissuedTaken d = omega (arith, d deck used [] .serves .only 7 same refl .2 .byte)
+not-unissuedTaken d = omega (arith, d deck used [] .serves .only 7 ownRows refl .2 .byte)
 
 -- ---- back
 
@@ -194,55 +196,55 @@ not-oneFigure d = le→leb _ _ (found d deck toRoot 2 refl refl refl .default-ne
 
 not-rootAtOnce : Demand3 rootAtOnce → ⊥
 unfolding computed
-not-rootAtOnce d = le→leb _ _ (found d deck (opened (back 7 same 1 ∷ [])) 1 refl refl refl .default-near 0 0 (lit≤ tt) (lit≤ tt) .below)
+not-rootAtOnce d = le→leb _ _ (found d deck (opened (back 7 ownRows 1 ∷ [])) 1 refl refl refl .default-near 0 0 (lit≤ tt) (lit≤ tt) .below)
 
 -- Rows one step back, from a back by 1.
-pub stepped : (x : Sheet) (i : ℕ) (l m : Rows) → Walks x 1 i l m → Stepped x (i - 1) l m
-unfolding Walks
-stepped x i l m (q, s, e) = subst (Stepped x (i - 1) l) e s
+pub back-step : (x : Terms) (i : ℕ) (l m : Rows) → BackSteps x 1 i l m → BackStep x (i - 1) l m
+unfolding BackSteps
+back-step x i l m (q, s, e) = subst (BackStep x (i - 1) l) e s
 
 abbrev openedPool : List Call
-openedPool = issue 7 ∷ opening 7 (other (filled 8 0)) ∷ []
+openedPool = issue 7 ∷ opening 7 (otherRows (constantRows 8 0)) ∷ []
 
 not-oneRounding : Demand3 oneRounding → ⊥
 unfolding computed
 not-oneRounding d =
-    omega (arith, stepped uneven 2 _ _ (d whole used openedPool .serves .ruled (back 7 same 1) .does refl .rows) .premium 0 0 (lit≤ tt) (lit≤ tt))
+    omega (arith, back-step unevenPool 2 _ _ (d whole used openedPool .serves .ruled (back 7 ownRows 1) .does refl .rows) .premium 0 0 (lit≤ tt) (lit≤ tt))
 
 not-roundedDown : Demand3 roundedDown → ⊥
 unfolding computed
 not-roundedDown d =
-    omega (arith, stepped uneven 2 _ _ (d whole used openedPool .serves .ruled (back 7 same 1) .does refl .rows) .default 1 2 (lit≤ tt) (lit≤ tt))
+    omega (arith, back-step unevenPool 2 _ _ (d whole used openedPool .serves .ruled (back 7 ownRows 1) .does refl .rows) .default 1 2 (lit≤ tt) (lit≤ tt))
 
 not-countBefore : Demand3 countBefore → ⊥
 unfolding computed
-not-countBefore d = le→leb _ _ (found d deck (opened (back 7 same 1 ∷ [])) 1 refl refl refl .premium-near 0 0 (lit≤ tt) (lit≤ tt) .below)
+not-countBefore d = le→leb _ _ (found d deck (opened (back 7 ownRows 1 ∷ [])) 1 refl refl refl .premium-near 0 0 (lit≤ tt) (lit≤ tt) .below)
 
 not-premiumRoundedDown : Demand3 premiumRoundedDown → ⊥
 unfolding computed
 not-premiumRoundedDown d =
-    omega (arith, stepped uneven 2 _ _ (d whole used openedPool .serves .ruled (back 7 same 1) .does refl .rows) .premium 1 0 (lit≤ tt) (lit≤ tt))
+    omega (arith, back-step unevenPool 2 _ _ (d whole used openedPool .serves .ruled (back 7 ownRows 1) .does refl .rows) .premium 1 0 (lit≤ tt) (lit≤ tt))
 
 not-indexByLoss : Demand3 indexByLoss → ⊥
 unfolding computed
-not-indexByLoss d = le→leb _ _ (found d deck (opened (back 7 same 1 ∷ [])) 1 refl refl refl .premium-near 1 0 (lit≤ tt) (lit≤ tt) .below)
+not-indexByLoss d = le→leb _ _ (found d deck (opened (back 7 ownRows 1 ∷ [])) 1 refl refl refl .premium-near 1 0 (lit≤ tt) (lit≤ tt) .below)
 
 not-positionMadeUp : Demand3 positionMadeUp → ⊥
 unfolding computed
 not-positionMadeUp d =
-    omega (arith, ap (λ (w : Walk). w .position) (found d deck (opened (back 7 same 1 ∷ back 7 same 1 ∷ [])) 2 refl refl refl .walk))
+    omega (arith, ap (λ (w : Walk). w .position) (found d deck (opened (back 7 ownRows 1 ∷ back 7 ownRows 1 ∷ [])) 2 refl refl refl .walk))
 
 not-stepEarly : Demand3 stepEarly → ⊥
 unfolding computed
-not-stepEarly d = omega (arith, own _ _ (d deck used (opened []) .serves .ruled (back 7 same 2) .judged) (lit≤ tt, tt))
+not-stepEarly d = omega (arith, own _ _ (d deck used (opened []) .serves .ruled (back 7 ownRows 2) .judged) (lit≤ tt, tt))
 
 not-zeroRefused : Demand3 zeroRefused → ⊥
 unfolding computed
-not-zeroRefused d = omega (arith, own _ _ (d deck used (opened []) .serves .ruled (back 7 same 0) .judged) (lit≤ tt, tt))
+not-zeroRefused d = omega (arith, own _ _ (d deck used (opened []) .serves .ruled (back 7 ownRows 0) .judged) (lit≤ tt, tt))
 
 not-refusedMoves : Demand3 refusedMoves → ⊥
 unfolding computed
-not-refusedMoves d = omega (arith, ap (λ (s : State). s .walk .position) (d deck used (opened []) .serves .untouched (back 7 same 3) refl))
+not-refusedMoves d = omega (arith, ap (λ (s : State). s .walk .position) (d deck used (opened []) .serves .untouched (back 7 ownRows 3) refl))
 
 not-closedAtRoot : Demand3 closedAtRoot → ⊥
 unfolding computed
@@ -260,30 +262,30 @@ not-firstCoupon d = omega (arith, ap (figure 2) (found d deck toRoot 2 refl refl
 
 not-netUnsigned : Demand3 netUnsigned → ⊥
 unfolding computed
-not-netUnsigned d = omega (arith, ap (figure 2) (found d (bookOf worked (10_000_000 ∷ 0 ∷ [])) toRoot 2 refl refl refl .shown 7 0 0 refl .said))
+not-netUnsigned d = omega (arith, ap (figure 2) (found d (catalogueOf worked (10_000_000 ∷ 0 ∷ [])) toRoot 2 refl refl refl .shown 7 0 0 refl .said))
 
 not-valueZeroes : Demand3 valueZeroes → ⊥
 unfolding computed
 not-valueZeroes d =
-    omega (arith, ap (λ (l : Rows). getD (l .defaults) 0 0) (d deck used toRoot .serves .ruled (value 7 same 0 0) .does refl .rows))
+    omega (arith, ap (λ (l : Rows). getD (l .defaults) 0 0) (d deck used toRoot .serves .ruled (value 7 ownRows 0 0) .does refl .rows))
 
 not-withdrawnAnswered : Demand3 withdrawnAnswered → ⊥
 unfolding computed
-not-withdrawnAnswered d = true≢false (d deck used (opened (withdraw 7 ∷ [])) .owed .hidden 7 refl same 0 0 .refused)
+not-withdrawnAnswered d = true≢false (d deck used (opened (withdraw 7 ∷ [])) .owed .hidden 7 refl ownRows 0 0 .refused)
 
 not-refusedTells : Demand3 refusedTells → ⊥
 unfolding computed
-not-refusedTells d = omega (arith, ap length (d deck used (opened (withdraw 7 ∷ [])) .owed .hidden 7 refl same 0 0 .silent))
+not-refusedTells d = omega (arith, ap length (d deck used (opened (withdraw 7 ∷ [])) .owed .hidden 7 refl ownRows 0 0 .silent))
 
 not-refusedTells-later : Power refusedTells → ⊥
-unfolding computed everWithdrew withdrew leaves afterAll
+unfolding computed everWithdrew withdrew eventLeaves stateAfterEvents
 not-refusedTells-later p =
-    omega (arith, ap length (p (blankState used) ended .shut 7 refl .value (deck .sheet 7) (walkAt 2) (filled 6 0) 0 0 refl .0 .silent))
+    omega (arith, ap length (p (blankState used) ended .shut 7 refl .value (deck .sheet 7) (walkAt 2) (constantRows 6 0) 0 0 refl .0 .silent))
 
 not-ceilingsPassed : Demand3 ceilingsPassed → ⊥
 unfolding computed
 not-ceilingsPassed d =
-    omega (arith, kept _ _ (d deck used (opened []) .serves .ruled (value 7 (other (filled 6 300_000_001)) 0 0) .judged) 12 .default 0 0 (lit≤ tt) (lit≤ tt))
+    omega (arith, kept _ _ (d deck used (opened []) .serves .ruled (value 7 (otherRows (constantRows 6 300_000_001)) 0 0) .judged) 12 .default 0 0 (lit≤ tt) (lit≤ tt))
 
 -- ---- what no list from a blank register shows
 
@@ -296,7 +298,7 @@ not-otherLength r = omega (arith, kept _ _ (r .opening sheet (replicate 8 0xA5) 
 
 -- A byte that a cut withdrawal may leave.
 abbrev cut : List ℕ
-cut = set blank 7 0x84
+cut = set blankRegister 7 0x84
 
 cut-gone : ¬ (Unissued cut 7 ⊎ Live cut 7)
 unfolding computed
@@ -308,17 +310,17 @@ unfolding computed
 not-zeroAlone r = cut-gone (kept _ _ (r .opening sheet cut fresh used .judged) 9)
 
 not-zeroAlone-later : Power zeroAlone → ⊥
-unfolding computed afterAll
+unfolding computed stateAfterEvents
 not-zeroAlone-later p =
     true≢false (p (record { register = cut; walk = fresh; rows = used }) [] .stays 7 cut-gone .opening sheet fresh used refl .0 .refused)
 
 not-valueZeroAlone : Rules valueZeroAlone → ⊥
 unfolding computed
-not-valueZeroAlone r = cut-gone (kept _ _ (r .value sheet cut (walkAt 2) (filled 6 0) 0 0 .judged) 9)
+not-valueZeroAlone r = cut-gone (kept _ _ (r .value sheet cut (walkAt 2) (constantRows 6 0) 0 0 .judged) 9)
 
 not-walkAbove : Rules walkAbove → ⊥
 unfolding computed
-not-walkAbove r = omega (arith, kept _ _ (r .value sheet live (walkAt 3) (filled 6 0) 0 0 .judged) 11 .position)
+not-walkAbove r = omega (arith, kept _ _ (r .value sheet live (walkAt 3) (constantRows 6 0) 0 0 .judged) 11 .position)
 
 -- ---- hedge ratio
 
@@ -347,8 +349,8 @@ unfolding computed
 not-flatForScale r = kept _ _ (r .ratio sheet live (walkAt 0) (elsewhere 0 300_000_000 0 0) 0 0 .judged) 15 refl
 
 not-ratioAnswered-later : Power ratioAnswered → ⊥
-unfolding computed everWithdrew withdrew leaves afterAll
-not-ratioAnswered-later p = true≢false (p (blankState used) ended .shut 7 refl .ratio sheet (walkAt 2) (filled 6 0) 0 0 refl .0 .refused)
+unfolding computed everWithdrew withdrew eventLeaves stateAfterEvents
+not-ratioAnswered-later p = true≢false (p (blankState used) ended .shut 7 refl .ratio sheet (walkAt 2) (constantRows 6 0) 0 0 refl .0 .refused)
 
 -- ---- forward
 
@@ -362,10 +364,10 @@ not-inPlace r = omega (arith, r .forward sheet live (replicate 3 0) 1 .does refl
 
 not-refusedWrites : Rules refusedWrites → ⊥
 unfolding computed
-not-refusedWrites r = omega (arith, ap (λ (q : List ℕ). getD q 0 0) (r .forward sheet blank (replicate 3 0) 1 .leaves refl))
+not-refusedWrites r = omega (arith, ap (λ (q : List ℕ). getD q 0 0) (r .forward sheet blankRegister (replicate 3 0) 1 .leaves refl))
 
 not-forwardAnswered-later : Power forwardAnswered → ⊥
-unfolding computed everWithdrew withdrew leaves afterAll
+unfolding computed everWithdrew withdrew eventLeaves stateAfterEvents
 not-forwardAnswered-later p = true≢false (p (blankState used) ended .shut 7 refl .forward sheet (replicate 3 0) 1 refl .0 .refused)
 
 pub none-keeps : NoneKeeps

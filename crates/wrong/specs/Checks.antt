@@ -11,25 +11,26 @@ use lib.IntN.{natAbs}
 use Rattle.cash.specs.Hedges.{ratioOf}
 use Rattle.register.specs.declared.answers.Status.{Status}
 use Rattle.register.specs.Register.{statusIn}
-use Rattle.register.specs.Events.{blank}
-use Rattle.tree.specs.Sheet.{Sheet, sumOf, widthOf, defaultMost, premiumMost}
+use Rattle.register.specs.Events.{blankRegister}
+use Rattle.sheet.specs.Terms.{Terms, sumOf}
+use Rattle.tree.specs.Sheet.{widthOf, defaultMost, premiumMost}
 use Rattle.rows.specs.Tables.{tab, any}
-use Rattle.rows.specs.Rows.{anyOver, soiled, spreadRow}
+use Rattle.rows.specs.Rows.{anyOver, soiled, distributionRow, Rows, rowsOf}
 use Rattle.sheet.specs.Brought.{Brought, brought}
-use Rattle.sheet.specs.Refusals.{refusalNumber}
+use Rattle.checks.specs.Refusals.{refusalNumber}
 use Rattle.lists.specs.Outside.{outside}
-use Rattle.sheet.specs.Tests.{differs, Test, first}
+use Rattle.checks.specs.Tests.{differs, Test, first}
 use Rattle.walk.specs.declared.Walk.{Walk}
 use Rattle.walk.specs.declared.Answer.the-variants as Answer
-use Rattle.walk.specs.Answers.{Rows, fresh}
-use Rattle.walk.specs.Table.{jump}
-use Rattle.walk.specs.Calls.{rowsOf, isWithdrawn, isUnissued, openTests, backTests, valueTests, ratioTests, forwardTests}
-use Rattle.walk.specs.Calls.{orOutcome, orFilled, zeros, rolls, worth}
-use Rattle.walk.specs.Does.{says}
+use Rattle.walk.specs.Answers.{fresh}
+use Rattle.figures.specs.Nodes.{jump}
+use Rattle.admission.specs.LentTests.{isWithdrawn, isUnissued}
+use Rattle.walk.specs.Calls.{openTests, backTests, valueTests, ratioTests, forwardTests, orOutcome, orForwardOutcome, zeros, rolls, worth}
+use Rattle.walk.specs.CallRules.{says}
 use Rattle.walk.specs.Engine.{Engine}
-use Rattle.walk.specs.Lists.{same, issue, back, value}
+use Rattle.walk.specs.CallLists.{ownRows, issue, back, value}
 use Rattle.walk.specs.Promise.{Rules, Demand3}
-use Rattle.walk.specs.Ours.{moved, filled, ours}
+use Rattle.walk.specs.OurEngine.{walkResult, forwardResult, ours}
 use Rattle.wrong.specs.Substitutes.{issueBy, withdrawBy, openBy, backBy, valueBy, ratioBy, forwardBy, refusal, byAnswer}
 use Rattle.wrong.specs.Examples.{deck, live, walkAt, refused, Plays}
 
@@ -80,11 +81,11 @@ pub record RuledOut (e : Engine) (answer : Engine → ℕ) (n : ℕ) : Type 0 wh
 abbrev pub judging : SheetCall → (Inputs → List Test → List Test) → Engine
 judging Open f =
     openBy (λ x g w l.
-    moved (orOutcome (first (f (inputs x g w l [] 0 0 0) (openTests x g l))) w l
+    walkResult (orOutcome (first (f (inputs x g w l [] 0 0 0) (openTests x g l))) w l
     (record { answer = Answer.Done; walk = record { «open» = true; number = x .number; position = x .sheet .steps }; rows = zeros x })))
 judging Back f =
     backBy (λ x g w l c.
-    moved (orOutcome (first (f (inputs x g w l [] c 0 0) (backTests x g w l c))) w l
+    walkResult (orOutcome (first (f (inputs x g w l [] c 0 0) (backTests x g w l c))) w l
     (record {
       answer = Answer.Position (w .position - c);
       walk = record { «open» = w .«open»; number = w .number; position = w .position - c };
@@ -92,15 +93,15 @@ judging Back f =
     })))
 judging Value f =
     valueBy (λ x g w l j k.
-    moved (orOutcome (first (f (inputs x g w l [] 0 j k) (valueTests x g w l j k))) w l (record { answer = worth x l j k; walk = w; rows = l })))
+    walkResult (orOutcome (first (f (inputs x g w l [] 0 j k) (valueTests x g w l j k))) w l (record { answer = worth x l j k; walk = w; rows = l })))
 judging Ratio f =
     ratioBy (λ x g w l j k.
-    moved (orOutcome (first (f (inputs x g w l [] 0 j k) (ratioTests x g w l j k))) w l
+    walkResult (orOutcome (first (f (inputs x g w l [] 0 j k) (ratioTests x g w l j k))) w l
     (record { answer = Answer.Ratio (ratioOf (jump x l j k) (jump x l (x .sheet .tranches) k)); walk = w; rows = l })))
 judging Forward f =
     forwardBy (λ x g q i.
-    filled (orFilled (first (f (inputs x g fresh (rowsOf [] []) q i 0 0) (forwardTests x g q i))) q
-    (record { answer = Answer.Done; row = spreadRow (x .sheet) i })))
+    forwardResult (orForwardOutcome (first (f (inputs x g fresh (rowsOf [] []) q i 0 0) (forwardTests x g q i))) q
+    (record { answer = Answer.Done; row = distributionRow (x .sheet) i })))
 
 -- Another test for the refusal n.
 abbrev pub replaced : ℕ → Bool → List Test → List Test
@@ -160,7 +161,7 @@ brokenFrom m n =
     (record { names = 1; steps = 1; tranches = from m 1 1 9; recovery = from m 3 1_000_000_000 1_000_000_001; number = 7 })
     (from m 4 0 5 ∷ 5 ∷ []) (from m 5 0 1_000_000_001 ∷ from m 2 [] (0 ∷ [])) (from m 6 1 0 ∷ []) (from m 7 10 0 ∷ [])
     (0 ∷ from m 8 1 10_000_001 ∷ []))
-    (set blank 7 (from m 10 0xA5 (cond (eqb m 10 || eqb n 10) 0xFF 0x00)))
+    (set blankRegister 7 (from m 10 0xA5 (cond (eqb m 10 || eqb n 10) 0xFF 0x00)))
     (from m 11 (record { «open» = true; number = 7; position = 0 }) fresh)
     (rowsOf (from m 15 (1 ∷ 0 ∷ 0 ∷ 0 ∷ []) (replicate 4 (from m 12 0 1_000_000_000_000))) (from m 15 (0 ∷ 0 ∷ 10 ∷ 0 ∷ []) (replicate 4 0)))
     (0 ∷ 0 ∷ []) 2 0 (from m 14 0 9)
@@ -178,7 +179,7 @@ isForward Forward = true
 -- 6 and 7 the rows of the default and the premium legs; of forward, 6 is its row.
 abbrev pub lengths : SheetCall → Inputs → List (ℕ × ℕ)
 lengths o a =
-    let x : Sheet = a .sheet .sheet in
+    let x : Terms = a .sheet .sheet in
     (length (x .attachments), x .tranches + 1) ∷ (length (x .hazards), x .names) ∷ (length (x .discounts), x .steps)
     ∷ (length (x .accruals), x .steps) ∷ (length (a .sheet .coupons), x .tranches + 1) ∷ (length (a .register), 256)
     ∷ cond (isForward o) ((length (a .row), x .names + 1) ∷ [])
@@ -210,8 +211,8 @@ resized place longer =
 -- ---- 1 and 3 to 8, at their limits, in open
 
 -- n, m and r, each from its least to its most.
-abbrev pub poolIn : ℕ → ℕ → ℕ → ℕ → ℕ → ℕ → Engine
-poolIn n n′ m m′ r r′ =
+abbrev pub poolLimits : ℕ → ℕ → ℕ → ℕ → ℕ → ℕ → Engine
+poolLimits n n′ m m′ r r′ =
     tested 1 (λ a. outside n n′ (a .sheet .sheet .names) || outside m m′ (a .sheet .sheet .steps) || outside r r′ (a .sheet .sheet .tranches)) Open
 
 abbrev pub recoveryTo : ℕ → Engine
@@ -246,8 +247,8 @@ pool n m r =
     brought (record { names = n; steps = m; tranches = r; recovery = 0; number = 7 })
     (tab (r + 1) (λ j. j)) (replicate n 0) (replicate m 1) (replicate m 1) (replicate (r + 1) 0)
 
-abbrev pub bare : ℕ → ℕ → ℕ → Brought
-bare n m r = brought (record { names = n; steps = m; tranches = r; recovery = 0; number = 7 }) [] [] [] [] []
+abbrev pub poolAlone : ℕ → ℕ → ℕ → Brought
+poolAlone n m r = brought (record { names = n; steps = m; tranches = r; recovery = 0; number = 7 }) [] [] [] [] []
 
 -- One name and one tranche, and all but one of its terms plain.
 abbrev pub terms : ℕ → ℕ → ℕ → ℕ → ℕ → List ℕ → ℕ → Brought
@@ -286,7 +287,7 @@ closedTaken = tested 11 (λ a. differs (a .walk .number) (a .sheet .number) || l
 abbrev pub otherNumberTaken : SheetCall → Engine
 otherNumberTaken = tested 11 (λ a. not (a .walk .«open») || ltb (a .sheet .sheet .steps) (a .walk .position))
 
-abbrev pub positionTo : (Sheet → ℕ) → SheetCall → Engine
+abbrev pub positionTo : (Terms → ℕ) → SheetCall → Engine
 positionTo most =
     tested 11 (λ a. not (a .walk .«open») || differs (a .walk .number) (a .sheet .number) || ltb (most (a .sheet .sheet)) (a .walk .position))
 
@@ -298,24 +299,24 @@ abbrev pub premiumsUnseen : SheetCall → Engine
 premiumsUnseen = tested 12 (λ a. soiled (a .sheet .sheet) (a .walk .position) (a .rows .defaults) [])
 
 -- Other ceilings, of the default legs at a tranche and a count, and of the premium legs at a step and a count.
-abbrev pub ceilingsTo : (Sheet → ℕ → ℕ → ℕ) → (Sheet → ℕ → ℕ → ℕ) → SheetCall → Engine
+abbrev pub ceilingsTo : (Terms → ℕ → ℕ → ℕ) → (Terms → ℕ → ℕ → ℕ) → SheetCall → Engine
 ceilingsTo d p =
     tested 12 (λ a.
     anyOver (a .sheet .sheet) (d (a .sheet .sheet)) (a .rows .defaults)
     || anyOver (a .sheet .sheet) (λ j k. p (a .sheet .sheet) (a .walk .position) k) (a .rows .premiums))
 
 -- The whole width, whatever is lost: of a tranche, and of the index.
-abbrev pub trancheUnlost : Sheet → ℕ → ℕ → ℕ
+abbrev pub trancheUnlost : Terms → ℕ → ℕ → ℕ
 trancheUnlost x j k = cond (ltb j (x .tranches)) (widthOf x j) (defaultMost x j k)
 
-abbrev pub indexUnlost : Sheet → ℕ → ℕ → ℕ
+abbrev pub indexUnlost : Terms → ℕ → ℕ → ℕ
 indexUnlost x j k = cond (ltb j (x .tranches)) (defaultMost x j k) (widthOf x j)
 
 abbrev pub stepsTo : (Inputs → ℕ) → SheetCall → Engine
 stepsTo most = tested 13 (λ a. ltb (most a) (a .steps))
 
 -- The last tranche and the last count.
-abbrev pub nodesTo : (Sheet → ℕ) → (Sheet → ℕ) → SheetCall → Engine
+abbrev pub nodesTo : (Terms → ℕ) → (Terms → ℕ) → SheetCall → Engine
 nodesTo r n = tested 14 (λ a. ltb (r (a .sheet .sheet)) (a .tranche) || ltb (n (a .sheet .sheet)) (a .count))
 
 -- Off scale by another test of how far the index and the tranche jump.
@@ -375,11 +376,11 @@ withdrawFirst n f = withdrawBy (λ g y. cond (f (statusIn g y)) (record { said =
 abbrev pub isLive : Status → Bool
 isLive s = not (isWithdrawn s || isUnissued s)
 
-abbrev pub issued : List ℕ → Engine → ℕ
-issued g e = e .issue g 7 .said .number
+abbrev pub issueAnswered : List ℕ → Engine → ℕ
+issueAnswered g e = e .issue g 7 .said .number
 
-abbrev pub withdrawn : List ℕ → Engine → ℕ
-withdrawn g e = e .withdraw g 7 .said .number
+abbrev pub withdrawAnswered : List ℕ → Engine → ℕ
+withdrawAnswered g e = e .withdraw g 7 .said .number
 
 -- ---- the walk that an accepted open leaves
 
@@ -414,18 +415,18 @@ pub record NoneChecks : Type 0 where
   pub one-way : (o : SheetCall) (i : ℕ) → has i (places o) ≡ true → (longer : Bool) →
       RuledOut (oneWay o i longer) (answered o (resized i longer)) 2
   -- 1
-  pub names-zero : ByOpen (poolIn 0 125 1 3650 1 8) (pool 0 1 1) 1
-  pub names-one-refused : ByOpen (poolIn 2 125 1 3650 1 8) (pool 1 1 1) 0
-  pub names-most-refused : ByOpen (poolIn 1 124 1 3650 1 8) (pool 125 1 1) 0
-  pub names-more : ByOpen (poolIn 1 126 1 3650 1 8) (pool 126 1 1) 1
-  pub steps-zero : ByOpen (poolIn 1 125 0 3650 1 8) (pool 1 0 1) 1
-  pub steps-one-refused : ByOpen (poolIn 1 125 2 3650 1 8) (pool 1 1 1) 0
-  pub steps-most-refused : ByOpen (poolIn 1 125 1 3649 1 8) (bare 1 3650 1) 2
-  pub steps-more : ByOpen (poolIn 1 125 1 3651 1 8) (bare 1 3651 1) 1
-  pub tranches-zero : ByOpen (poolIn 1 125 1 3650 0 8) (pool 1 1 0) 1
-  pub tranches-one-refused : ByOpen (poolIn 1 125 1 3650 2 8) (pool 1 1 1) 0
-  pub tranches-most-refused : ByOpen (poolIn 1 125 1 3650 1 7) (pool 1 1 8) 0
-  pub tranches-more : ByOpen (poolIn 1 125 1 3650 1 9) (pool 1 1 9) 1
+  pub names-zero : ByOpen (poolLimits 0 125 1 3650 1 8) (pool 0 1 1) 1
+  pub names-one-refused : ByOpen (poolLimits 2 125 1 3650 1 8) (pool 1 1 1) 0
+  pub names-most-refused : ByOpen (poolLimits 1 124 1 3650 1 8) (pool 125 1 1) 0
+  pub names-more : ByOpen (poolLimits 1 126 1 3650 1 8) (pool 126 1 1) 1
+  pub steps-zero : ByOpen (poolLimits 1 125 0 3650 1 8) (pool 1 0 1) 1
+  pub steps-one-refused : ByOpen (poolLimits 1 125 2 3650 1 8) (pool 1 1 1) 0
+  pub steps-most-refused : ByOpen (poolLimits 1 125 1 3649 1 8) (poolAlone 1 3650 1) 2
+  pub steps-more : ByOpen (poolLimits 1 125 1 3651 1 8) (poolAlone 1 3651 1) 1
+  pub tranches-zero : ByOpen (poolLimits 1 125 1 3650 0 8) (pool 1 1 0) 1
+  pub tranches-one-refused : ByOpen (poolLimits 1 125 1 3650 2 8) (pool 1 1 1) 0
+  pub tranches-most-refused : ByOpen (poolLimits 1 125 1 3650 1 7) (pool 1 1 8) 0
+  pub tranches-more : ByOpen (poolLimits 1 125 1 3650 1 9) (pool 1 1 9) 1
   -- 3 to 8
   pub recovery-most-refused : ByOpen (recoveryTo 999_999_999) (ofRecovery 1_000_000_000) 0
   pub recovery-more : ByOpen (recoveryTo 1_000_000_001) (ofRecovery 1_000_000_001) 3
@@ -473,28 +474,29 @@ pub record NoneChecks : Type 0 where
   pub scale-equal : RuledOut scaleEqual (answered Ratio (brokenFrom 16 16)) 16
   pub scale-early : RuledOut scaleEarly (answered Ratio nearScale) 0
   -- 2, 9, 10 and 17 of issue and withdraw. No number is withdrawn and live, or withdrawn and unissued, so 9 is exchanged with 2 alone.
-  pub issue-longer : RuledOut (issueOn (λ g y. take 256 g)) (issued (replicate 257 0xFF)) 2
-  pub issue-shorter : RuledOut (issueOn (λ g y. g ++ replicate (256 - length g) 0xFF)) (issued (replicate 255 0xFF)) 2
-  pub issue-withdrawn-first : RuledOut (issueFirst 9 isWithdrawn) (issued (replicate 255 0x00)) 2
-  pub issue-live-first : RuledOut (issueFirst 17 isLive) (issued (replicate 255 0xA5)) 2
-  pub issue-live : RuledOut (issueOn (λ g y. cond (isLive (statusIn g y)) (set g y 0xFF) g)) (issued live) 17
-  pub withdraw-longer : RuledOut (withdrawOn (λ g y. take 256 g)) (withdrawn (replicate 257 0xA5)) 2
-  pub withdraw-shorter : RuledOut (withdrawOn (λ g y. g ++ replicate (256 - length g) 0xA5)) (withdrawn (replicate 255 0xA5)) 2
-  pub withdraw-withdrawn-first : RuledOut (withdrawFirst 9 isWithdrawn) (withdrawn (replicate 255 0x00)) 2
-  pub withdraw-unissued-first : RuledOut (withdrawFirst 10 isUnissued) (withdrawn (replicate 255 0xFF)) 2
-  pub withdraw-withdrawn : RuledOut (withdrawOn (λ g y. cond (isWithdrawn (statusIn g y)) (set g y 0xA5) g)) (withdrawn (set blank 7 0x00)) 9
-  pub withdraw-unissued : RuledOut (withdrawOn (λ g y. cond (isUnissued (statusIn g y)) (set g y 0xA5) g)) (withdrawn blank) 10
+  pub issue-longer : RuledOut (issueOn (λ g y. take 256 g)) (issueAnswered (replicate 257 0xFF)) 2
+  pub issue-shorter : RuledOut (issueOn (λ g y. g ++ replicate (256 - length g) 0xFF)) (issueAnswered (replicate 255 0xFF)) 2
+  pub issue-withdrawn-first : RuledOut (issueFirst 9 isWithdrawn) (issueAnswered (replicate 255 0x00)) 2
+  pub issue-live-first : RuledOut (issueFirst 17 isLive) (issueAnswered (replicate 255 0xA5)) 2
+  pub issue-live : RuledOut (issueOn (λ g y. cond (isLive (statusIn g y)) (set g y 0xFF) g)) (issueAnswered live) 17
+  pub withdraw-longer : RuledOut (withdrawOn (λ g y. take 256 g)) (withdrawAnswered (replicate 257 0xA5)) 2
+  pub withdraw-shorter : RuledOut (withdrawOn (λ g y. g ++ replicate (256 - length g) 0xA5)) (withdrawAnswered (replicate 255 0xA5)) 2
+  pub withdraw-withdrawn-first : RuledOut (withdrawFirst 9 isWithdrawn) (withdrawAnswered (replicate 255 0x00)) 2
+  pub withdraw-unissued-first : RuledOut (withdrawFirst 10 isUnissued) (withdrawAnswered (replicate 255 0xFF)) 2
+  pub withdraw-withdrawn :
+      RuledOut (withdrawOn (λ g y. cond (isWithdrawn (statusIn g y)) (set g y 0xA5) g)) (withdrawAnswered (set blankRegister 7 0x00)) 9
+  pub withdraw-unissued : RuledOut (withdrawOn (λ g y. cond (isUnissued (statusIn g y)) (set g y 0xA5) g)) (withdrawAnswered blankRegister) 10
   -- Demand 3 rules out any other walk after an open. A fresh walk is closed: an open one would be the walk of the number 0.
   pub opened-closed : Demand3 openedClosed → ⊥
   pub opened-elsewhere : Demand3 openedElsewhere → ⊥
   pub opened-short : Demand3 openedShort → ⊥
-  pub fresh-closed : Plays deck ((issue 0, says []) ∷ (back 0 same 0, refused 11) ∷ (value 0 same 0 0, refused 11) ∷ [])
+  pub fresh-closed : Plays deck ((issue 0, says []) ∷ (back 0 ownRows 0, refused 11) ∷ (value 0 ownRows 0 0, refused 11) ∷ [])
 
 -- ---- the families with document 01's own limits
 
 -- Each is ours, so that the fault of an engine above is the one it is named for.
 pub record Unmoved : Type 0 where
-  pub pool : poolIn 1 125 1 3650 1 8 ≡ ours
+  pub pool : poolLimits 1 125 1 3650 1 8 ≡ ours
   pub recovery : recoveryTo 1_000_000_000 ≡ ours
   pub attachments : attachmentsTo leb 1_000_000_000 ≡ ours
   pub hazards : hazardsTo 1_000_000_000 ≡ ours

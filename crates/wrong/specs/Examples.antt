@@ -1,4 +1,5 @@
--- Lists of calls of our engine on small sheets, with what they are answered and leave, so that the promise is not empty. Proved in proofs/Examples.antt.
+-- Lists of calls of our engine on small sheets, with what they are answered and leave, so that the promise is not empty.
+-- Proved in proofs/Examples.antt.
 use Prim.Native.Nat.{ℕ, _+_}
 use mathlib.Core.Path.{_≡_, refl}
 use mathlib.Core.Bool.{true, false}
@@ -6,44 +7,47 @@ use mathlib.Core.List.{List, [], _∷_, _++_, map}
 use lib.ListN.{replicate, getD, set}
 use lib.IntN.{pos, negsuc}
 use Rattle.register.specs.Cut.{mayBeLeft}
-use Rattle.register.specs.Events.{blank}
-use Rattle.tree.specs.Sheet.{Sheet, spanning}
-use Rattle.tree.specs.Trials.{worked, uneven}
+use Rattle.register.specs.Events.{blankRegister}
+use Rattle.sheet.specs.Terms.{Terms}
+use Rattle.tree.specs.Sheet.{spanning}
+use Rattle.tree.specs.Trials.{worked, unevenPool}
 use Rattle.sheet.specs.Brought.{Brought, brought}
 use Rattle.sheet.specs.Limits.{Limits}
 use Rattle.walk.specs.declared.Walk.{Walk}
-use Rattle.walk.specs.Answers.{Rows, fresh, Said}
-use Rattle.walk.specs.Does.{Moved, says}
-use Rattle.walk.specs.Ours.{ours}
-use Rattle.walk.specs.Lists.{same, other, Call, issue, withdraw, opening, back, value, State, turn, Book, Run, blankState, end}
-use Rattle.walk.specs.Promises.{Walked, heldD, heldA, Operation, call, ratio, forward, operate, Event, returned, cutIn, afterAll, everWithdrew}
+use Rattle.rows.specs.Rows.{Rows}
+use Rattle.walk.specs.Answers.{fresh, Said}
+use Rattle.walk.specs.CallRules.{WalkResult, says}
+use Rattle.walk.specs.OurEngine.{ours}
+use Rattle.walk.specs.CallLists.{ownRows, otherRows, Call, issue, withdraw, opening, back, value, State, callResult, Catalogue, Run, blankState, end}
+use Rattle.walk.specs.Accuracy.{Walked, heldD, heldA}
+use Rattle.walk.specs.Power.{Operation, call, ratio, forward, operate, Event, returned, cutIn, stateAfterEvents, everWithdrew}
 use Rattle.walk.specs.Promise.{blankRun}
 
 -- ---- sheets, rows and lists
 
 -- Every number brings the same sheet.
-abbrev pub bookOf : Sheet → List ℕ → Book
-bookOf x coupons = record { sheet = λ y. record { sheet = x; number = y; coupons = coupons }; bears = λ y. refl }
+abbrev pub catalogueOf : Terms → List ℕ → Catalogue
+catalogueOf x coupons = record { sheet = λ y. record { sheet = x; number = y; coupons = coupons }; bears = λ y. refl }
 
-abbrev pub filled : ℕ → ℕ → Rows
-filled n y = record { defaults = replicate n y; premiums = replicate n y }
+abbrev pub constantRows : ℕ → ℕ → Rows
+constantRows n y = record { defaults = replicate n y; premiums = replicate n y }
 
 -- The deck of document 01, and rows for it with something in them.
-abbrev pub deck : Book
-deck = bookOf worked (1_000_000 ∷ 500_000 ∷ [])
+abbrev pub deck : Catalogue
+deck = catalogueOf worked (1_000_000 ∷ 500_000 ∷ [])
 
 abbrev pub used : Rows
-used = filled 6 1
+used = constantRows 6 1
 
 -- The number 7 live, and its walk at the step i.
 abbrev pub live : List ℕ
-live = set blank 7 0xA5
+live = set blankRegister 7 0xA5
 
 abbrev pub walkAt : ℕ → Walk
 walkAt i = record { «open» = true; number = 7; position = i }
 
 abbrev pub toRoot : List Call
-toRoot = issue 7 ∷ opening 7 (other used) ∷ back 7 same 2 ∷ []
+toRoot = issue 7 ∷ opening 7 (otherRows used) ∷ back 7 ownRows 2 ∷ []
 
 abbrev pub refused : ℕ → Said
 refused n = record { number = n; values = [] }
@@ -53,29 +57,29 @@ abbrev pub Script : Type 0
 Script = List (Call × Said)
 
 -- What calls are answered one after the other.
-unfoldable pub listing : (ℕ → Brought) → State → List Call → List Said
-listing book s [] = []
-listing book s (c ∷ l) = turn ours book s c .said ∷ listing book (turn ours book s c .state) l
+unfoldable pub answersOf : (ℕ → Brought) → State → List Call → List Said
+answersOf sheets s [] = []
+answersOf sheets s (c ∷ l) = callResult ours sheets s c .said ∷ answersOf sheets (callResult ours sheets s c .state) l
 
 -- From a blank register, a fresh walk and rows with something in them.
-abbrev pub Plays : Book → Script → Type 0
-Plays k l = listing (k .sheet) (blankState used) (map (λ t. t .0) l) ≡ map (λ t. t .1) l
+abbrev pub Plays : Catalogue → Script → Type 0
+Plays k l = answersOf (k .sheet) (blankState used) (map (λ t. t .0) l) ≡ map (λ t. t .1) l
 
 -- ---- the worked deck
 
 abbrev pub deckScript : Script
 deckScript =
-    (issue 7, says []) ∷ (opening 7 (other used), says []) ∷ (back 7 same 2, says (pos 0 ∷ []))
-    ∷ (value 7 same 0 0, says (pos 54_300_000 ∷ pos 218_700_000 ∷ pos 324_300_000_000_000 ∷ []))
-    ∷ (value 7 same 1 0, says (pos 59_700_000 ∷ pos 805_500_000 ∷ pos 194_250_000_000_000 ∷ []))
-    ∷ (withdraw 7, says []) ∷ (value 7 same 0 0, refused 9) ∷ []
+    (issue 7, says []) ∷ (opening 7 (otherRows used), says []) ∷ (back 7 ownRows 2, says (pos 0 ∷ []))
+    ∷ (value 7 ownRows 0 0, says (pos 54_300_000 ∷ pos 218_700_000 ∷ pos 324_300_000_000_000 ∷ []))
+    ∷ (value 7 ownRows 1 0, says (pos 59_700_000 ∷ pos 805_500_000 ∷ pos 194_250_000_000_000 ∷ []))
+    ∷ (withdraw 7, says []) ∷ (value 7 ownRows 0 0, refused 9) ∷ []
 
 -- Where the walk stands at the root.
 abbrev pub root : State
 root = end ours (blankRun deck used toRoot)
 
 -- The hedge ratio there.
-abbrev pub ratioOn : Rows → ℕ → ℕ → Moved
+abbrev pub ratioOn : Rows → ℕ → ℕ → WalkResult
 ratioOn l j k = ours .ratio (deck .sheet 7) (root .register) (root .walk) l j k
 
 pub record Deck : Type 0 where
@@ -89,15 +93,15 @@ pub record Deck : Type 0 where
       }
   pub tranche-ratio : ratioOn (root .rows) 0 0 .said ≡ says (pos 724_386 ∷ [])
   pub index-ratio : ratioOn (root .rows) 1 0 .said ≡ says (pos 1_000_000 ∷ [])
-  pub spread : ours .forward (deck .sheet 7) (root .register) (replicate 3 5) 2
+  pub distribution : ours .forward (deck .sheet 7) (root .register) (replicate 3 5) 2
       ≡ record { said = says []; row = 810_000_000 ∷ 170_000_000 ∷ 20_000_000 ∷ [] }
 
 -- ---- two tranches beside the one that spans them
 
 -- The uneven pool with its tranche parted in two.
-abbrev pub parted : Book
+abbrev pub parted : Catalogue
 parted =
-    bookOf
+    catalogueOf
     (record {
       names = 3;
       steps = 2;
@@ -109,18 +113,20 @@ parted =
       accruals = 250_000_000 ∷ 253_000_000 ∷ [];
     }) (3 ∷ 2 ∷ 1 ∷ [])
 
-abbrev pub whole : Book
-whole = bookOf uneven (7 ∷ 1 ∷ [])
+abbrev pub whole : Catalogue
+whole = catalogueOf unevenPool (7 ∷ 1 ∷ [])
 
 -- Each in a list of its own, walked as far: step by step, and at once.
 abbrev pub partedRun : Run
-partedRun = blankRun parted used (issue 5 ∷ opening 5 (other (filled 12 3)) ∷ back 5 same 1 ∷ value 5 same 2 0 ∷ back 5 same 1 ∷ [])
+partedRun =
+    blankRun parted used
+    (issue 5 ∷ opening 5 (otherRows (constantRows 12 3)) ∷ back 5 ownRows 1 ∷ value 5 ownRows 2 0 ∷ back 5 ownRows 1 ∷ [])
 
 abbrev pub wholeRun : Run
-wholeRun = blankRun whole used (issue 7 ∷ opening 7 (other (filled 8 4)) ∷ back 7 same 2 ∷ [])
+wholeRun = blankRun whole used (issue 7 ∷ opening 7 (otherRows (constantRows 8 4)) ∷ back 7 ownRows 2 ∷ [])
 
 -- At the count 0 the legs of the two miss those of the one by 1 unit and by 3, of the 6 and the 9 that three times the distances allow.
-pub record Additive : Type 0 where
+pub record TranchesAdd : Type 0 where
   pub parted-within : Limits (parted .sheet 5)
   pub spans : whole .sheet 7 .sheet ≡ spanning (parted .sheet 5 .sheet)
   pub parted-walked : Walked ours partedRun 5 2
@@ -136,28 +142,30 @@ pub record Additive : Type 0 where
         premiums = 127_836_600 ∷ 27_663_400 ∷ 0 ∷ 0 ∷ 459_568_458 ∷ 267_701_193 ∷ 88_677_498 ∷ 0 ∷ [];
       }
   pub defaults : heldD ours partedRun (parted .sheet 5 .sheet) 0 0 + heldD ours partedRun (parted .sheet 5 .sheet) 1 0 + 1
-      ≡ heldD ours wholeRun uneven 0 0
+      ≡ heldD ours wholeRun unevenPool 0 0
   pub premiums : heldA ours partedRun (parted .sheet 5 .sheet) 0 0 + heldA ours partedRun (parted .sheet 5 .sheet) 1 0
-      ≡ heldA ours wholeRun uneven 0 0 + 3
+      ≡ heldA ours wholeRun unevenPool 0 0 + 3
 
 -- ---- refusals
 
 -- A list in which most calls are refused.
 abbrev pub refusedScript : Script
 refusedScript =
-    (opening 7 (other used), refused 10) ∷ (withdraw 7, refused 10) ∷ (issue 7, says []) ∷ (issue 7, refused 17) ∷ (back 7 same 1, refused 11)
-    ∷ (opening 7 (other (filled 5 0)), refused 2) ∷ (opening 7 (other used), says []) ∷ (back 7 same 3, refused 13) ∷ (value 7 same 2 0, refused 14)
-    ∷ (value 7 same 0 3, refused 14) ∷ (value 7 (other (filled 7 0)) 0 0, refused 2) ∷ (value 7 (other (filled 6 1)) 0 0, refused 12)
-    ∷ (issue 9, says []) ∷ (back 9 same 1, refused 11) ∷ (withdraw 9, says []) ∷ (withdraw 9, refused 9) ∷ (issue 9, refused 9)
-    ∷ (opening 9 same, refused 9) ∷ (back 9 same 1, refused 9) ∷ (back 7 same 0, says (pos 2 ∷ [])) ∷ (back 7 same 2, says (pos 0 ∷ []))
-    ∷ (back 7 same 1, refused 13) ∷ (value 7 same 0 0, says (pos 54_300_000 ∷ pos 218_700_000 ∷ pos 324_300_000_000_000 ∷ [])) ∷ []
+    (opening 7 (otherRows used), refused 10) ∷ (withdraw 7, refused 10) ∷ (issue 7, says []) ∷ (issue 7, refused 17) ∷ (back 7 ownRows 1, refused 11)
+    ∷ (opening 7 (otherRows (constantRows 5 0)), refused 2) ∷ (opening 7 (otherRows used), says []) ∷ (back 7 ownRows 3, refused 13)
+    ∷ (value 7 ownRows 2 0, refused 14) ∷ (value 7 ownRows 0 3, refused 14) ∷ (value 7 (otherRows (constantRows 7 0)) 0 0, refused 2)
+    ∷ (value 7 (otherRows (constantRows 6 1)) 0 0, refused 12)
+    ∷ (issue 9, says []) ∷ (back 9 ownRows 1, refused 11) ∷ (withdraw 9, says []) ∷ (withdraw 9, refused 9) ∷ (issue 9, refused 9)
+    ∷ (opening 9 ownRows, refused 9) ∷ (back 9 ownRows 1, refused 9) ∷ (back 7 ownRows 0, says (pos 2 ∷ [])) ∷ (back 7 ownRows 2, says (pos 0 ∷ []))
+    ∷ (back 7 ownRows 1, refused 13) ∷ (value 7 ownRows 0 0, says (pos 54_300_000 ∷ pos 218_700_000 ∷ pos 324_300_000_000_000 ∷ [])) ∷ []
 
 -- An open of a sheet of one step and one tranche, mostly of one name.
 abbrev pub openedWith : ℕ → ℕ → List ℕ → ℕ → ℕ → ℕ → ℕ → Said
 openedWith names recovery attachments hazard discount accrual coupon =
     ours .opening
-    (brought (record { names = names; steps = 1; tranches = 1; recovery = recovery; number = 7 }) attachments (hazard ∷ []) (discount ∷ []) (accrual ∷ []) (coupon ∷ 0 ∷ []))
-    live fresh (filled 4 0) .said
+    (brought (record { names = names; steps = 1; tranches = 1; recovery = recovery; number = 7 })
+    attachments (hazard ∷ []) (discount ∷ []) (accrual ∷ []) (coupon ∷ 0 ∷ []))
+    live fresh (constantRows 4 0) .said
 
 pub record Refusals : Type 0 where
   pub listing : Plays deck refusedScript
@@ -175,7 +183,8 @@ pub record Refusals : Type 0 where
 
 -- ---- hedge ratios on rows lent from elsewhere
 
--- Rows within their ceilings that no walk makes, with d and e at the count 0 as the default legs of tranche and index, and a and b at the count 1 as their premium legs.
+-- Rows within their ceilings that no walk makes, with d and e at the count 0 as the default legs of tranche and index,
+-- and a and b at the count 1 as their premium legs.
 abbrev pub elsewhere : ℕ → ℕ → ℕ → ℕ → Rows
 elsewhere d e a b = record { defaults = d ∷ 0 ∷ 0 ∷ e ∷ 0 ∷ 0 ∷ []; premiums = 0 ∷ a ∷ 0 ∷ 0 ∷ b ∷ 0 ∷ [] }
 
@@ -199,7 +208,7 @@ abbrev pub cutIssue : ℕ → List Event
 cutIssue b = cutIn (call (issue 7)) b fresh used ∷ []
 
 abbrev pub left : List Event → State
-left l = afterAll ours (blankState used) l
+left l = stateAfterEvents ours (blankState used) l
 
 -- What a call is answered after events.
 abbrev pub saidAfter : List Event → Operation → Said
@@ -211,11 +220,11 @@ again = cutWithdrawal 0xA5 ++ (returned deck (call (withdraw 7)) ∷ cutIn (call
 
 -- The number 7 is issued and opened.
 abbrev pub started : List Event
-started = returned deck (call (issue 7)) ∷ returned deck (call (opening 7 same)) ∷ []
+started = returned deck (call (issue 7)) ∷ returned deck (call (opening 7 ownRows)) ∷ []
 
 -- A hedge ratio and a forward of it.
 abbrev pub ratioAsked : Operation
-ratioAsked = ratio 7 same 0 0
+ratioAsked = ratio 7 ownRows 0 0
 
 abbrev pub forwardAsked : Operation
 forwardAsked = forward 7 (replicate 3 5) 2
@@ -231,13 +240,13 @@ askedTwice = started ++ (asked ++ (returned deck (call (withdraw 7)) ∷ asked))
 pub record Cuts : Type 0 where
   pub can-be : mayBeLeft 0xA5 0x00 0x84 ≡ true
   pub byte : getD (left (cutWithdrawal 0x84) .register) 7 0 ≡ 0x84
-  pub gone : saidAfter (cutWithdrawal 0x84) (call (opening 7 same)) ≡ refused 9
+  pub gone : saidAfter (cutWithdrawal 0x84) (call (opening 7 ownRows)) ≡ refused 9
   pub not-issued : saidAfter (cutWithdrawal 0x84) (call (issue 7)) ≡ refused 9
   pub not-returned : everWithdrew ours (blankState used) (cutWithdrawal 0x84) 7 ≡ false
   pub still-can-be : mayBeLeft 0xA5 0x00 0xA5 ≡ true
-  pub still-live : saidAfter (cutWithdrawal 0xA5) (call (opening 7 same)) ≡ says []
+  pub still-live : saidAfter (cutWithdrawal 0xA5) (call (opening 7 ownRows)) ≡ says []
   pub returned : everWithdrew ours (blankState used) again 7 ≡ true
-  pub shut : saidAfter again (call (opening 7 same)) ≡ refused 9
+  pub shut : saidAfter again (call (opening 7 ownRows)) ≡ refused 9
   pub other-byte : getD (left again .register) 8 0 ≡ 0xB7
   pub other-shut : saidAfter again (call (issue 8)) ≡ refused 9
   pub issue-can-be : mayBeLeft 0xFF 0xA5 0xFF ≡ true

@@ -12,28 +12,29 @@ use Rattle.cash.specs.Units.{B, half}
 use Rattle.cash.specs.Near.{Near}
 use Rattle.cash.specs.Sums.{sumTo}
 use Rattle.cash.specs.Losses.{trancheLoss, indexOutstanding}
-use Rattle.cash.specs.Hedges.{netValue, changeOf, jumpOf, negative, unlike, signed, millionths, ratioOf}
+use Rattle.cash.specs.Hedges.{netValue, changeOf, jumpOf, negative, unlike, withSign, millionths, ratioOf}
 use Rattle.tree.specs.Paths.{survive, default}
 use Rattle.tree.specs.Backward.{rollNode, Leg}
 use Rattle.tree.specs.Legs.{defaultLeg, premiumLeg}
-use Rattle.tree.specs.Sheet.{Sheet, hazardOf, discountOf, accrualOf, poolLossOf, lossOf, widthOf, outstandingOf, treeOf, defaultOf}
-use Rattle.tree.specs.Sheet.{premiumOf, dates, spanning}
-use Rattle.tree.specs.Forward.{same, moved, fromBelow, pushed, errors}
+use Rattle.sheet.specs.Terms.{Terms}
+use Rattle.tree.specs.Sheet.{hazardOf, discountOf, accrualOf, poolLossOf, lossOf, widthOf, outstandingOf, treeOf, defaultOf, premiumOf, dates}
+use Rattle.tree.specs.Sheet.{spanning}
+use Rattle.tree.specs.Forward.{same, outflow, fromBelow, pushed, errors}
 use Rattle.tree.specs.Trials.{units, drifting}
 use Rattle.rows.specs.Tables.{tab}
-use Rattle.rows.specs.Rows.{nodeIn, rowOf, rolled}
+use Rattle.rows.specs.Rows.{nodeIn, rowOf, rolled, Rows}
 use Rattle.sheet.specs.Brought.{Brought}
 use Rattle.sheet.specs.Limits.{Limits}
-use Rattle.walk.specs.Answers.{Rows, accepted}
-use Rattle.walk.specs.Table.{nodeOf, jump}
-use Rattle.walk.specs.Does.{says}
+use Rattle.walk.specs.Answers.{accepted}
+use Rattle.figures.specs.Nodes.{nodeOf, jump}
+use Rattle.walk.specs.CallRules.{says}
 use Rattle.walk.specs.Engine.{Engine}
-use Rattle.walk.specs.Ours.{ours}
-use Rattle.walk.specs.Lists.{same as sameRows, other, issue, opening, back, Book, Run, end}
-use Rattle.walk.specs.Promises.{Walked, heldD, heldA}
+use Rattle.walk.specs.OurEngine.{ours}
+use Rattle.walk.specs.CallLists.{ownRows as sameRows, otherRows, issue, opening, back, Catalogue, Run, end}
+use Rattle.walk.specs.Accuracy.{Walked, heldD, heldA}
 use Rattle.walk.specs.Promise.{Rules, Demand3, blankRun}
 use Rattle.wrong.specs.Substitutes.{withSaid, byAnswer, valueBy, forwardBy, backRows, backNodes, valueNets, ratioOfRows}
-use Rattle.wrong.specs.Examples.{bookOf, filled, used, deck, root, ratioOn, whole, wholeRun}
+use Rattle.wrong.specs.Examples.{catalogueOf, constantRows, used, deck, root, ratioOn, whole, wholeRun}
 
 -- ---- back: both rows by other steps
 
@@ -44,7 +45,7 @@ rowBy step i (suc c) row = step (i - suc c) (rowBy step i c row)
 
 -- A step back of a sheet's row, from step i + 1 to step i.
 abbrev Step : Type 0
-Step = Sheet → ℕ → List ℕ → List ℕ
+Step = Terms → ℕ → List ℕ → List ℕ
 
 abbrev backSteps : Step → Step → Engine
 backSteps d a =
@@ -57,10 +58,10 @@ backSteps d a =
 -- ---- back: the sheet, the chances and the moves
 
 -- By the rule, on another sheet.
-abbrev backOn : (Sheet → Sheet) → Engine
+abbrev backOn : (Terms → Terms) → Engine
 backOn f = backSteps (λ x. rolled (f x) (defaultOf (f x))) (λ x. rolled (f x) (premiumOf (f x)))
 
-abbrev sheetWith : Sheet → ℕ → List ℕ → List ℕ → Sheet
+abbrev sheetWith : Terms → ℕ → List ℕ → List ℕ → Terms
 sheetWith x recovery discounts accruals =
     record {
       names = x .names;
@@ -93,14 +94,14 @@ abbrev pub movesExchanged : Engine
 movesExchanged = backNodes (λ hazard discount defaulted survived. rollNode hazard discount survived defaulted)
 
 -- By other chances of a default from a count.
-abbrev chanced : (Sheet → ℕ → ℕ) → (Sheet → ℕ → Leg) → Step
+abbrev chanced : (Terms → ℕ → ℕ) → (Terms → ℕ → Leg) → Step
 chanced hazard leg x i row =
     rowOf x (λ j k.
     rollNode (hazard x k) (discountOf x (suc i))
     (nodeIn x row j (suc k) + leg x j .rounded (suc i) k default)
     (nodeIn x row j k + leg x j .rounded (suc i) k survive))
 
-abbrev backChances : (Sheet → ℕ → ℕ) → Engine
+abbrev backChances : (Terms → ℕ → ℕ) → Engine
 backChances hazard = backSteps (chanced hazard defaultOf) (chanced hazard premiumOf)
 
 -- p(k + 1) for p(k).
@@ -114,7 +115,7 @@ pastLastCount = backChances (λ x k. getD (x .hazards) (min k (pred (x .names)))
 -- ---- back: the cash
 
 -- By other legs.
-abbrev backLegs : (Sheet → ℕ → Leg) → (Sheet → ℕ → Leg) → Engine
+abbrev backLegs : (Terms → ℕ → Leg) → (Terms → ℕ → Leg) → Engine
 backLegs d a = backSteps (λ x. rolled x (d x)) (λ x. rolled x (a x))
 
 -- The premium leg in the row of the default legs, and the other way round.
@@ -136,7 +137,7 @@ abbrev pub premiumInDefaults : Engine
 premiumInDefaults = backLegs (λ x j. besides (defaultOf x j) (premiumOf x j)) premiumOf
 
 -- M(k) by another rule, and O(k) of a tranche from it.
-abbrev backLosses : (Sheet → ℕ → ℕ → ℕ) → Engine
+abbrev backLosses : (Terms → ℕ → ℕ → ℕ) → Engine
 backLosses M =
     backLegs (λ x j. defaultLeg (M x j))
     (λ x j. premiumLeg (accrualOf x) (λ k. cond (ltb j (x .tranches)) (widthOf x j - M x j k) (indexOutstanding (x .names) k)))
@@ -150,7 +151,7 @@ abbrev pub lossUncapped : Engine
 lossUncapped = backLosses (λ x j k. cond (ltb j (x .tranches)) (poolLossOf x k - getD (x .attachments) j 0) (poolLossOf x k))
 
 -- L(k) rounded up.
-abbrev lossUp : Sheet → ℕ → ℕ
+abbrev lossUp : Terms → ℕ → ℕ
 lossUp x k = (k * (B - x .recovery) + pred (x .names)) / x .names
 
 abbrev pub lossRoundedUp : Engine
@@ -165,7 +166,7 @@ indexRoundedDown =
     premiumLeg (accrualOf x) (λ k. cond (ltb j (x .tranches)) (outstandingOf x j k) ((x .names - k) * B / x .names)))
 
 -- The chance of a step on two figures, without its discount.
-abbrev weighed : Sheet → ℕ → ℕ → ℕ → ℕ → ℕ
+abbrev weighed : Terms → ℕ → ℕ → ℕ → ℕ → ℕ
 weighed x i k defaulted survived = half (hazardOf x (suc i) k * defaulted + (B - hazardOf x (suc i) k) * survived)
 
 -- The premium of a date on the count after the step, added late:
@@ -249,7 +250,7 @@ trancheCoupon =
 abbrev ratioOfSizes : (ℕ → ℕ → ℕ) → Engine
 ratioOfSizes size =
     ratioOfRows (λ x l j k.
-    signed (unlike (negative (jump x l j k)) (negative (jump x l (x .sheet .tranches) k)))
+    withSign (unlike (negative (jump x l j k)) (negative (jump x l (x .sheet .tranches) k)))
     (size (natAbs (jump x l j k)) (natAbs (jump x l (x .sheet .tranches) k))))
 
 abbrev pub tenThousandths : Engine
@@ -265,39 +266,39 @@ halfToEven = ratioOfSizes (λ s d. toEven s d (s * 1_000_000 / d))
 -- ---- forward
 
 -- An accepted forward fills the row by a rule of the sheet, the lent row and the step.
-abbrev forwardRow : (Sheet → List ℕ → ℕ → ℕ → ℕ) → Engine
+abbrev forwardRow : (Terms → List ℕ → ℕ → ℕ → ℕ) → Engine
 forwardRow f =
     forwardBy (λ x g q i.
     cond (accepted (ours .forward x g q i .said))
     (record { said = says []; row = tab (x .sheet .names + 1) (f (x .sheet) q i) }) (ours .forward x g q i))
 
 -- Q(k) after some steps by a rule, from a row.
-unfoldable pub spreadBy : (ℕ → (ℕ → ℕ) → ℕ → ℕ) → (ℕ → ℕ) → ℕ → ℕ → ℕ
-spreadBy step q zero k = q k
-spreadBy step q (suc i) k = step (suc i) (spreadBy step q i) k
+unfoldable pub distributionBy : (ℕ → (ℕ → ℕ) → ℕ → ℕ) → (ℕ → ℕ) → ℕ → ℕ → ℕ
+distributionBy step q zero k = q k
+distributionBy step q (suc i) k = step (suc i) (distributionBy step q i) k
 
 abbrev first : ℕ → ℕ
 first k = B * same 0 k
 
 -- Moves by another rounding.
-abbrev moves : (ℕ → ℕ) → Sheet → ℕ → (ℕ → ℕ) → ℕ → ℕ
+abbrev moves : (ℕ → ℕ) → Terms → ℕ → (ℕ → ℕ) → ℕ → ℕ
 moves round x s q k = q k - round (q k * hazardOf x s k) + fromBelow (λ c. round (q c * hazardOf x s c)) k
 
 abbrev pub movesDown : Engine
-movesDown = forwardRow (λ x q. spreadBy (moves (λ y. y / B) x) first)
+movesDown = forwardRow (λ x q. distributionBy (moves (λ y. y / B) x) first)
 
 -- Only a half rounded down.
 abbrev pub halfMovesDown : Engine
-halfMovesDown = forwardRow (λ x q. spreadBy (moves (λ y. (y + 499_999_999) / B) x) first)
+halfMovesDown = forwardRow (λ x q. distributionBy (moves (λ y. (y + 499_999_999) / B) x) first)
 
 -- The last count loses what the chance of the one before it would move from it.
 abbrev pub movesPastLast : Engine
 movesPastLast =
-    forwardRow (λ x q. spreadBy (λ s p k. pushed (treeOf x) s p k - cond (eqb k (x .names)) (half (p k * hazardOf x s (pred k))) 0) first)
+    forwardRow (λ x q. distributionBy (λ s p k. pushed (treeOf x) s p k - cond (eqb k (x .names)) (half (p k * hazardOf x s (pred k))) 0) first)
 
 -- What moves is lost.
 abbrev pub movesLost : Engine
-movesLost = forwardRow (λ x q. spreadBy (λ s p k. p k - moved (treeOf x) s p k) first)
+movesLost = forwardRow (λ x q. distributionBy (λ s p k. p k - outflow (treeOf x) s p k) first)
 
 -- Nothing moves: all of B stays at the count 0.
 abbrev pub nothingMoves : Engine
@@ -305,7 +306,7 @@ nothingMoves = forwardRow (λ x q i. first)
 
 -- From the lent row.
 abbrev pub fromLentRow : Engine
-fromLentRow = forwardRow (λ x q. spreadBy (pushed (treeOf x)) (λ k. getD q k 0))
+fromLentRow = forwardRow (λ x q. distributionBy (pushed (treeOf x)) (λ k. getD q k 0))
 
 -- ---- none of them
 
@@ -358,27 +359,27 @@ pub record Unchanged : Type 0 where
       ≡ ours .value (deck .sheet 7) (root .register) (root .walk) (root .rows) 0 0
   pub jumps : ratioOfJumps jumpOf .ratio (deck .sheet 7) (root .register) (root .walk) (root .rows) 0 0 ≡ ratioOn (root .rows) 0 0
   pub sizes : ratioOfSizes millionths .ratio (deck .sheet 7) (root .register) (root .walk) (root .rows) 0 0 ≡ ratioOn (root .rows) 0 0
-  pub moves : forwardRow (λ x q. spreadBy (moves half x) first) .forward (whole .sheet 7) (root .register) (replicate 4 5) 2
+  pub moves : forwardRow (λ x q. distributionBy (moves half x) first) .forward (whole .sheet 7) (root .register) (replicate 4 5) 2
       ≡ ours .forward (whole .sheet 7) (root .register) (replicate 4 5) 2
 
 -- ---- bounds that need their factor
 
 -- The eight units and the one tranche that spans them, each in a list of its own.
-abbrev pub unitsBook : Book
-unitsBook = bookOf units (replicate 9 0)
+abbrev pub unitsCatalogue : Catalogue
+unitsCatalogue = catalogueOf units (replicate 9 0)
 
-abbrev pub spannedBook : Book
-spannedBook = bookOf (spanning units) (replicate 2 0)
+abbrev pub spannedCatalogue : Catalogue
+spannedCatalogue = catalogueOf (spanning units) (replicate 2 0)
 
 abbrev pub unitsRun : Run
-unitsRun = blankRun unitsBook used (issue 5 ∷ opening 5 (other (filled 18 0)) ∷ back 5 sameRows 1 ∷ [])
+unitsRun = blankRun unitsCatalogue used (issue 5 ∷ opening 5 (otherRows (constantRows 18 0)) ∷ back 5 sameRows 1 ∷ [])
 
 abbrev pub spannedRun : Run
-spannedRun = blankRun spannedBook used (issue 7 ∷ opening 7 (other (filled 4 0)) ∷ back 7 sameRows 1 ∷ [])
+spannedRun = blankRun spannedCatalogue used (issue 7 ∷ opening 7 (otherRows (constantRows 4 0)) ∷ back 7 sameRows 1 ∷ [])
 
 -- Their legs do not add to those of the one within the distances alone, h = 1 and (doubled) 2 h + q = 3, so that demand 3 needs a factor above 1.
 pub record FactorNeeded : Type 0 where
-  pub within : Limits (unitsBook .sheet 5)
+  pub within : Limits (unitsCatalogue .sheet 5)
   pub walked : Walked ours unitsRun 5 1
   pub spanned-walked : Walked ours spannedRun 7 1
   pub dates : dates units 1 0 ≡ 1
@@ -387,5 +388,5 @@ pub record FactorNeeded : Type 0 where
 
 -- The errors of a distribution may total more than a unit a step, so that i alone is no bound: it needs a factor.
 pub record NamesNeeded : Type 0 where
-  pub within : Limits (bookOf drifting (replicate 2 0) .sheet 7)
+  pub within : Limits (catalogueOf drifting (replicate 2 0) .sheet 7)
   pub errors : ¬ (errors (treeOf drifting) 3 ≤ 3 * B ^ 3)

@@ -2,10 +2,16 @@
 use Prim.Native.Nat.{ℕ}
 use mathlib.Core.List.{List}
 use Rattle.walk.specs.Engine.{Engine}
-use Rattle.walk.specs.Lists.{State}
-use Rattle.walk.specs.Promises.{Event, Forever, Clears}
+use Rattle.walk.specs.CallLists.{State}
+use Rattle.walk.specs.Power.{Event, Forever, Clears}
 use Rattle.walk.specs.Promise.{Rules, Demand3}
-use Rattle.wrong.specs.Substitutes.{alwaysLive, issuedAgain, byteLeft, bitsSet, otherByteWritten, refusedStores, allRefused, exchangedNumbers, withdrawnFirst, notCleared, refusedZeroes, refusedCloses, unissuedTaken, rowsLeft, oneFigure, rootAtOnce, oneRounding, roundedDown, countBefore, premiumRoundedDown, indexByLoss, positionMadeUp, stepEarly, zeroRefused, refusedMoves, closedAtRoot, oneAnswer, firstCoupon, netUnsigned, valueZeroes, withdrawnAnswered, valueZeroAlone, refusedTells, otherLength, zeroAlone, walkAbove, upsideDown, signLost, restCut, halfUpwards, paymentLost, flatForScale, ratioAnswered, stepShort, inPlace, refusedWrites, forwardAnswered}
+use Rattle.wrong.specs.Substitutes.{alwaysLive, issuedAgain, byteLeft, bitsSet, otherByteWritten, refusedStores, allRefused}
+use Rattle.wrong.specs.Substitutes.{exchangedNumbers, withdrawnFirst, notCleared, refusedZeroes, refusedCloses, unissuedTaken, rowsLeft}
+use Rattle.wrong.specs.Substitutes.{oneFigure, rootAtOnce, oneRounding, roundedDown, countBefore, premiumRoundedDown, indexByLoss}
+use Rattle.wrong.specs.Substitutes.{positionMadeUp, stepEarly, zeroRefused, refusedMoves, closedAtRoot, oneAnswer, firstCoupon, netUnsigned}
+use Rattle.wrong.specs.Substitutes.{valueZeroes, withdrawnAnswered, valueZeroAlone, refusedTells, otherLength, zeroAlone, walkAbove}
+use Rattle.wrong.specs.Substitutes.{upsideDown, signLost, restCut, halfUpwards, paymentLost, flatForScale, ratioAnswered, stepShort, inPlace}
+use Rattle.wrong.specs.Substitutes.{refusedWrites, forwardAnswered}
 use Rattle.wrong.specs.Checks.{Value, skipping}
 
 -- Value takes entries over their ceilings, and answers by them.

@@ -8,71 +8,129 @@ use lib.IntN.{ℤ, pos, natAbs}
 use Rattle.cash.specs.declared.Node.{Node}
 use Rattle.cash.specs.Units.{B, half}
 use Rattle.cash.specs.Losses.{premiumPayment}
-use Rattle.cash.specs.Hedges.{netValue, jumpOf, negative, unlike, signed, millionths, ratioOf}
+use Rattle.cash.specs.Hedges.{netValue, jumpOf, negative, unlike, withSign, millionths, ratioOf}
 use Rattle.register.specs.Register.{statusIn}
-use Rattle.tree.specs.Paths.{survive, default, after}
+use Rattle.tree.specs.Paths.{survive, default, countAfter}
 use Rattle.tree.specs.Backward.{Leg}
 use Rattle.tree.specs.Legs.{premiumLeg}
-use Rattle.tree.specs.Sheet.{Sheet, hazardOf, discountOf, accrualOf, poolLossOf, outstandingOf, defaultOf, premiumOf}
+use Rattle.sheet.specs.Terms.{Terms}
+use Rattle.tree.specs.Sheet.{hazardOf, discountOf, accrualOf, poolLossOf, outstandingOf, defaultOf, premiumOf}
 use Rattle.rows.specs.Tables.{tab}
-use Rattle.rows.specs.Rows.{nodeIn, rowOf, rolledBack, spreadRow}
+use Rattle.rows.specs.Rows.{nodeIn, rowOf, rolledBack, distributionRow, Rows}
 use Rattle.sheet.specs.Brought.{Brought}
 use Rattle.walk.specs.declared.Walk.{Walk}
-use Rattle.walk.specs.Answers.{Rows, Said, accepted, fresh}
-use Rattle.walk.specs.Table.{nodeOf, jump}
-use Rattle.walk.specs.Calls.{isWithdrawn, isUnissued, zeros, rolls}
-use Rattle.walk.specs.Does.{Entered, Moved, Spread, says}
+use Rattle.walk.specs.Answers.{Said, accepted, fresh}
+use Rattle.figures.specs.Nodes.{nodeOf, jump}
+use Rattle.admission.specs.LentTests.{isWithdrawn, isUnissued}
+use Rattle.walk.specs.Calls.{zeros, rolls}
+use Rattle.walk.specs.CallRules.{RegisterResult, WalkResult, ForwardResult, says}
 use Rattle.walk.specs.Engine.{Engine}
-use Rattle.walk.specs.Ours.{ours}
+use Rattle.walk.specs.OurEngine.{ours}
 
 -- ---- ours, with one call replaced
 
-abbrev pub issueBy : (List ℕ → ℕ → Entered) → Engine
+abbrev pub issueBy : (List ℕ → ℕ → RegisterResult) → Engine
 issueBy f =
-    record { issue = f; withdraw = ours .withdraw; opening = ours .opening; back = ours .back; value = ours .value; ratio = ours .ratio; forward = ours .forward }
+    record {
+      issue = f;
+      withdraw = ours .withdraw;
+      opening = ours .opening;
+      back = ours .back;
+      value = ours .value;
+      ratio = ours .ratio;
+      forward = ours .forward;
+    }
 
-abbrev pub withdrawBy : (List ℕ → ℕ → Entered) → Engine
+abbrev pub withdrawBy : (List ℕ → ℕ → RegisterResult) → Engine
 withdrawBy f =
-    record { issue = ours .issue; withdraw = f; opening = ours .opening; back = ours .back; value = ours .value; ratio = ours .ratio; forward = ours .forward }
+    record {
+      issue = ours .issue;
+      withdraw = f;
+      opening = ours .opening;
+      back = ours .back;
+      value = ours .value;
+      ratio = ours .ratio;
+      forward = ours .forward;
+    }
 
-abbrev pub openBy : (Brought → List ℕ → Walk → Rows → Moved) → Engine
+abbrev pub openBy : (Brought → List ℕ → Walk → Rows → WalkResult) → Engine
 openBy f =
-    record { issue = ours .issue; withdraw = ours .withdraw; opening = f; back = ours .back; value = ours .value; ratio = ours .ratio; forward = ours .forward }
+    record {
+      issue = ours .issue;
+      withdraw = ours .withdraw;
+      opening = f;
+      back = ours .back;
+      value = ours .value;
+      ratio = ours .ratio;
+      forward = ours .forward;
+    }
 
-abbrev pub backBy : (Brought → List ℕ → Walk → Rows → ℕ → Moved) → Engine
+abbrev pub backBy : (Brought → List ℕ → Walk → Rows → ℕ → WalkResult) → Engine
 backBy f =
-    record { issue = ours .issue; withdraw = ours .withdraw; opening = ours .opening; back = f; value = ours .value; ratio = ours .ratio; forward = ours .forward }
+    record {
+      issue = ours .issue;
+      withdraw = ours .withdraw;
+      opening = ours .opening;
+      back = f;
+      value = ours .value;
+      ratio = ours .ratio;
+      forward = ours .forward;
+    }
 
-abbrev pub valueBy : (Brought → List ℕ → Walk → Rows → ℕ → ℕ → Moved) → Engine
+abbrev pub valueBy : (Brought → List ℕ → Walk → Rows → ℕ → ℕ → WalkResult) → Engine
 valueBy f =
-    record { issue = ours .issue; withdraw = ours .withdraw; opening = ours .opening; back = ours .back; value = f; ratio = ours .ratio; forward = ours .forward }
+    record {
+      issue = ours .issue;
+      withdraw = ours .withdraw;
+      opening = ours .opening;
+      back = ours .back;
+      value = f;
+      ratio = ours .ratio;
+      forward = ours .forward;
+    }
 
-abbrev pub ratioBy : (Brought → List ℕ → Walk → Rows → ℕ → ℕ → Moved) → Engine
+abbrev pub ratioBy : (Brought → List ℕ → Walk → Rows → ℕ → ℕ → WalkResult) → Engine
 ratioBy f =
-    record { issue = ours .issue; withdraw = ours .withdraw; opening = ours .opening; back = ours .back; value = ours .value; ratio = f; forward = ours .forward }
+    record {
+      issue = ours .issue;
+      withdraw = ours .withdraw;
+      opening = ours .opening;
+      back = ours .back;
+      value = ours .value;
+      ratio = f;
+      forward = ours .forward;
+    }
 
-abbrev pub forwardBy : (Brought → List ℕ → List ℕ → ℕ → Spread) → Engine
+abbrev pub forwardBy : (Brought → List ℕ → List ℕ → ℕ → ForwardResult) → Engine
 forwardBy f =
-    record { issue = ours .issue; withdraw = ours .withdraw; opening = ours .opening; back = ours .back; value = ours .value; ratio = ours .ratio; forward = f }
+    record {
+      issue = ours .issue;
+      withdraw = ours .withdraw;
+      opening = ours .opening;
+      back = ours .back;
+      value = ours .value;
+      ratio = ours .ratio;
+      forward = f;
+    }
 
 -- ---- what a call gives back, changed
 
 abbrev pub refusal : ℕ → Said
 refusal n = record { number = n; values = [] }
 
-abbrev pub withSaid : Moved → Said → Moved
+abbrev pub withSaid : WalkResult → Said → WalkResult
 withSaid o s = record { said = s; walk = o .walk; rows = o .rows }
 
-abbrev withRows : Moved → Rows → Moved
+abbrev withRows : WalkResult → Rows → WalkResult
 withRows o l = record { said = o .said; walk = o .walk; rows = l }
 
 -- At the position i, which a back also answers.
-abbrev movedTo : Moved → ℕ → Moved
+abbrev movedTo : WalkResult → ℕ → WalkResult
 movedTo o i =
     record { said = says (pos i ∷ []); walk = record { «open» = o .walk .«open»; number = o .walk .number; position = i }; rows = o .rows }
 
 -- The first where the call was accepted, and the second where it was refused.
-abbrev pub byAnswer : Moved → Moved → Moved → Moved
+abbrev pub byAnswer : WalkResult → WalkResult → WalkResult → WalkResult
 byAnswer o a b = cond (accepted (o .said)) a b
 
 -- Two refusal numbers taken for one another.
@@ -185,14 +243,14 @@ abbrev pub rootAtOnce : Engine
 rootAtOnce = backRows (λ x w l c m. cond (eqb (w .position) (x .sheet .steps)) (rolls x (w .position) (w .position) l) l)
 
 -- One step back by another rule of a node, and c of them.
-unfoldable pub steppedBy : (ℕ → ℕ → ℕ → ℕ → ℕ) → Sheet → (ℕ → Leg) → ℕ → List ℕ → List ℕ
+unfoldable pub steppedBy : (ℕ → ℕ → ℕ → ℕ → ℕ) → Terms → (ℕ → Leg) → ℕ → List ℕ → List ℕ
 steppedBy node x leg i row =
     rowOf x (λ j k.
     node (hazardOf x (suc i) k) (discountOf x (suc i))
     (nodeIn x row j (suc k) + leg j .rounded (suc i) k default)
     (nodeIn x row j k + leg j .rounded (suc i) k survive))
 
-unfoldable pub rolledBy : (ℕ → ℕ → ℕ → ℕ → ℕ) → Sheet → (ℕ → Leg) → ℕ → ℕ → List ℕ → List ℕ
+unfoldable pub rolledBy : (ℕ → ℕ → ℕ → ℕ → ℕ) → Terms → (ℕ → Leg) → ℕ → ℕ → List ℕ → List ℕ
 rolledBy node x leg i zero row = row
 rolledBy node x leg i (suc c) row = steppedBy node x leg (i - suc c) (rolledBy node x leg i c row)
 
@@ -214,7 +272,7 @@ abbrev pub roundedDown : Engine
 roundedDown = backNodes (λ hazard discount defaulted survived. discount * ((hazard * defaulted + (B - hazard) * survived) / B) / B)
 
 -- Premiums by another leg.
-abbrev backPremiums : (Sheet → ℕ → Leg) → Engine
+abbrev backPremiums : (Terms → ℕ → Leg) → Engine
 backPremiums leg =
     backRows (λ x w l c m.
     record { defaults = m .defaults; premiums = rolledBack (x .sheet) (leg (x .sheet)) (w .position) c (l .premiums) })
@@ -235,7 +293,7 @@ premiumRoundedDown =
     backPremiums (λ x j.
     record {
       exactly = premiumOf x j .exactly;
-      rounded = λ s k m. accrualOf x s * outstandingOf x j (after k m) / B;
+      rounded = λ s k m. accrualOf x s * outstandingOf x j (countAfter k m) / B;
       halves = premiumOf x j .halves;
     })
 
@@ -355,13 +413,13 @@ signLost = ratioOfRows (λ x l j k. pos (natAbs (ratioOf (jump x l j k) (jump x 
 abbrev pub restCut : Engine
 restCut =
     ratioOfRows (λ x l j k.
-    signed (unlike (negative (jump x l j k)) (negative (jump x l (x .sheet .tranches) k)))
+    withSign (unlike (negative (jump x l j k)) (negative (jump x l (x .sheet .tranches) k)))
     (natAbs (jump x l j k) * 1_000_000 / natAbs (jump x l (x .sheet .tranches) k)))
 
 -- A half rounded upwards, also below zero.
 abbrev upwards : Bool → ℕ → ℕ → ℤ
-upwards true s d = signed true ((2 * (s * 1_000_000) + d - 1) / (2 * d))
-upwards false s d = signed false (millionths s d)
+upwards true s d = withSign true ((2 * (s * 1_000_000) + d - 1) / (2 * d))
+upwards false s d = withSign false (millionths s d)
 
 abbrev pub halfUpwards : Engine
 halfUpwards =
@@ -393,14 +451,14 @@ abbrev pub stepShort : Engine
 stepShort = forwardBy (λ x g q i. ours .forward x g q (i - 1))
 
 -- Moves made in place from low k: c comes from the count below.
-unfoldable pub lowFirst : List ℕ → List ℕ → ℕ → List ℕ
-lowFirst [] h c = []
-lowFirst (q ∷ l) [] c = (q + c) ∷ lowFirst l [] 0
-lowFirst (q ∷ l) (p ∷ h) c = (q + c - half ((q + c) * p)) ∷ lowFirst l h (half ((q + c) * p))
+unfoldable pub movedInPlace : List ℕ → List ℕ → ℕ → List ℕ
+movedInPlace [] h c = []
+movedInPlace (q ∷ l) [] c = (q + c) ∷ movedInPlace l [] 0
+movedInPlace (q ∷ l) (p ∷ h) c = (q + c - half ((q + c) * p)) ∷ movedInPlace l h (half ((q + c) * p))
 
-unfoldable pub lowRow : Sheet → ℕ → List ℕ
+unfoldable pub lowRow : Terms → ℕ → List ℕ
 lowRow x zero = tab (x .names + 1) (λ k. cond (eqb k 0) B 0)
-lowRow x (suc i) = lowFirst (lowRow x i) (x .hazards) 0
+lowRow x (suc i) = movedInPlace (lowRow x i) (x .hazards) 0
 
 abbrev pub inPlace : Engine
 inPlace =
@@ -409,7 +467,7 @@ inPlace =
 
 -- A refused forward writes the row.
 abbrev pub refusedWrites : Engine
-refusedWrites = forwardBy (λ x g q i. record { said = ours .forward x g q i .said; row = spreadRow (x .sheet) i })
+refusedWrites = forwardBy (λ x g q i. record { said = ours .forward x g q i .said; row = distributionRow (x .sheet) i })
 
 -- A withdrawn number is still answered.
 abbrev pub forwardAnswered : Engine

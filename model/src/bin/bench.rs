@@ -6,9 +6,10 @@
 //! little. Rows and walk are made anew before each run, outside the clock.
 
 use lavroudem_model::deck::{listing_by, Calls, CALLS, MAX_DECK};
+use lavroudem_model::refusal::Refusal;
 use lavroudem_model::register;
 use lavroudem_model::sheet::Sheet;
-use lavroudem_model::walk::{row_length, Walk};
+use lavroudem_model::walk::{row_length, Value, Walk};
 use lavroudem_model::{decks, engine, fast};
 use std::hint::black_box;
 
@@ -20,6 +21,8 @@ const SHORT_CALLS: usize = 1_000;
 /// What the calls of one side work on.
 struct Desk {
     sheet: Sheet,
+    /// The same for the engine, made outside the clock.
+    lent: lavroudem::Sheet,
     register: Vec<u8>,
     walk: Walk,
     default_row: Vec<u64>,
@@ -29,20 +32,45 @@ struct Desk {
     out: Vec<u8>,
 }
 
-/// One side of the comparison.
+type Answer<T> = (Walk, Result<T, Refusal>);
+
+/// One side of the comparison. Values are asked for at tranche and count 0.
 struct Side {
-    calls: Calls,
+    back: fn(&mut Desk, usize) -> Answer<usize>,
+    value: fn(&Desk) -> Answer<Value>,
+    forward: fn(&mut Desk, usize) -> Result<(), Refusal>,
     deck: fn(&mut Desk),
 }
 
 const ENGINE: Side = Side {
-    calls: engine::CALLS,
-    deck: engine_deck,
+    back: |d, steps| {
+        let rows = (&mut d.default_row, &mut d.premium_row);
+        engine::back(d.walk, &d.lent, &d.register, steps, rows.0, rows.1)
+    },
+    value: |d| {
+        let rows = (&d.default_row, &d.premium_row);
+        engine::value(d.walk, &d.lent, &d.register, 0, 0, rows.0, rows.1)
+    },
+    forward: |d, steps| engine::forward(&d.lent, &d.register, steps, &mut d.row),
+    deck: |d| {
+        engine::run_deck(&d.deck, &mut d.out).unwrap();
+    },
 };
 
 const RUST: Side = Side {
-    calls: FAST,
-    deck: fast_deck,
+    back: |d, steps| {
+        let rows = (&mut d.default_row, &mut d.premium_row);
+        fast::back(d.walk, &d.sheet, &d.register, steps, rows.0, rows.1)
+    },
+    value: |d| {
+        let rows = (&d.default_row, &d.premium_row);
+        fast::value(d.walk, &d.sheet, &d.register, 0, 0, rows.0, rows.1)
+    },
+    forward: |d, steps| fast::forward(&d.sheet, &d.register, steps, &mut d.row),
+    deck: |d| {
+        let printed = listing_by(FAST, &d.deck);
+        d.out[..printed.len()].copy_from_slice(&printed);
+    },
 };
 
 const FAST: Calls = Calls {
@@ -133,6 +161,7 @@ fn opened(sheet: &Sheet) -> Desk {
     );
     answer.unwrap();
     Desk {
+        lent: engine::lend(sheet),
         sheet: sheet.clone(),
         register,
         walk,
@@ -222,14 +251,7 @@ fn same(one: &Desk, other: &Desk) -> bool {
 }
 
 fn back(side: &Side, desk: &mut Desk, steps: usize) {
-    let (walk, answer) = (side.calls.back)(
-        desk.walk,
-        &desk.sheet,
-        &desk.register,
-        steps,
-        &mut desk.default_row,
-        &mut desk.premium_row,
-    );
+    let (walk, answer) = (side.back)(desk, steps);
     answer.unwrap();
     desk.walk = walk;
 }
@@ -252,42 +274,21 @@ fn back_0(side: &Side, desk: &mut Desk) {
 
 fn values(side: &Side, desk: &mut Desk) {
     for _ in 0..SHORT_CALLS {
-        let (_, answer) = (side.calls.value)(
-            desk.walk,
-            &desk.sheet,
-            &desk.register,
-            0,
-            0,
-            &desk.default_row,
-            &desk.premium_row,
-        );
+        let (_, answer) = (side.value)(desk);
         black_box(answer).unwrap();
     }
 }
 
-fn spread(side: &Side, desk: &mut Desk, steps: usize) {
-    (side.calls.forward)(&desk.sheet, &desk.register, steps, &mut desk.row).unwrap();
-}
-
 fn forward(side: &Side, desk: &mut Desk) {
-    spread(side, desk, desk.sheet.steps);
+    (side.forward)(desk, desk.sheet.steps).unwrap();
 }
 
 fn forward_0(side: &Side, desk: &mut Desk) {
     for _ in 0..SHORT_CALLS {
-        spread(side, desk, 0);
+        (side.forward)(desk, 0).unwrap();
     }
 }
 
 fn deck(side: &Side, desk: &mut Desk) {
     (side.deck)(desk);
-}
-
-fn engine_deck(desk: &mut Desk) {
-    engine::run_deck(&desk.deck, &mut desk.out).unwrap();
-}
-
-fn fast_deck(desk: &mut Desk) {
-    let printed = listing_by(FAST, &desk.deck);
-    desk.out[..printed.len()].copy_from_slice(&printed);
 }

@@ -1,7 +1,10 @@
-//! Plain sheets for the trials, by shape; random ones come by seed.
+//! Plain sheets for the trials, by shape; random ones come by seed. A desk
+//! has what the calls are lent.
 
 // Each test file is built by itself and uses only a part of this.
 #![allow(dead_code, unused_imports)]
+
+pub mod desk;
 
 pub use lavroudem_model::random::Random;
 use lavroudem_model::sheet::Sheet;

@@ -134,8 +134,8 @@ impl Imports {
     }
 }
 
-/// `walk/specs/Does.antt` for `Rattle.walk.specs.Does`, as others name it, or
-/// `Rattle.walk.specs.Does`, as it is named at home.
+/// `walk/specs/Calls.antt` for `Rattle.walk.specs.Calls`, as others name it, or
+/// `Rattle.walk.specs.Calls`, as it is named at home.
 fn file_of(module: &str) -> Option<String> {
     let (home, name) = module.strip_prefix("Rattle·")?.split_once(".specs.")?;
     let home = home.trim_end_matches("·specs");

@@ -1,8 +1,8 @@
--- `cash::change` meets its contract. Assumes nothing.
+-- `cash::change` meets its contract.
 use lib.Dec.{lit<}
 use Rattle.cash.specs.Units.{B}
 use Rattle.cash.specs.Hedges.{changeOf}
-use Rattle.cash.proofs.Meant.{Is, casts, nat, sub, fits, read}
+use Rattle.cash.proofs.Meant.{casts, nat, sub, fits, read}
 use Rattle.cash.proofs.change.Statement.{statement}
 use Rattle.cash.proofs.change.Tie as tie
 

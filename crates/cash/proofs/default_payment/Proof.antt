@@ -1,4 +1,4 @@
--- `cash::default_payment` meets its contract. Assumes nothing.
+-- `cash::default_payment` meets its contract.
 use borrow.Author.Needs.{needs}
 use mathlib.Core.Path.{refl}
 use Rattle.cash.specs.Losses.{defaultPayment}

@@ -1,4 +1,4 @@
--- `cash::half` meets its contract. Assumes nothing.
+-- `cash::half` meets its contract.
 use native.Mathlib.Omega.{arith}
 use mathlib.Core.Path.{refl}
 use Rattle.cash.specs.Units.{B, half}

@@ -1,6 +1,5 @@
--- `cash::jump` meets its contract: each change is as meant, and so is what the jump makes of them. Assumes nothing.
+-- `cash::jump` meets its contract: each change is as meant, and so is what the jump makes of them.
 use borrow.Author.Needs.{needs}
-use native.Mathlib.Omega.{arith}
 use Prim.Native.Nat.{_*_}
 use lib.Dec.{lit<}
 use lib.IntN.{pos, _+ℤ_, _*ℤ_}

@@ -1,4 +1,4 @@
--- `cash::net_value` meets its contract. Assumes nothing.
+-- `cash::net_value` meets its contract.
 use borrow.Author.Needs.{needs}
 use Prim.Native.Nat.{_*_}
 use lib.Dec.{lit<}

@@ -1,4 +1,4 @@
--- `cash::pool_loss` meets its contract. Assumes nothing.
+-- `cash::pool_loss` meets its contract.
 use borrow.Author.Needs.{needs}
 use native.Mathlib.Omega.{arith}
 use mathlib.Core.Path.{refl}

@@ -1,4 +1,4 @@
--- `cash::premium_payment` meets its contract. Assumes nothing.
+-- `cash::premium_payment` meets its contract.
 use native.Mathlib.Omega.{arith}
 use Prim.Native.Nat.{_*_, _≤_}
 use native.Mathlib.Nat.{mul-le-mul}

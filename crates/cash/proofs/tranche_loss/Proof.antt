@@ -1,4 +1,4 @@
--- `cash::tranche_loss` meets its contract. Assumes nothing.
+-- `cash::tranche_loss` meets its contract.
 use borrow.Author.Needs.{needs}
 use native.Mathlib.Omega.{arith}
 use Rattle.cash.specs.Losses.{trancheLoss}

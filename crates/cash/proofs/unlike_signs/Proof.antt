@@ -1,6 +1,6 @@
--- `cash::unlike_signs` meets its contract. Assumes nothing.
+-- `cash::unlike_signs` meets its contract.
 use mathlib.Core.Path.{_≡_, sym, _∙_, ap}
-use mathlib.Core.Bool.{Bool, not}
+use mathlib.Core.Bool.{Bool}
 use lib.IntN.{ℤ, pos}
 use lib.Signed.{ltZ, leZ}
 use mir.Syntax.{w64}

@@ -1,4 +1,4 @@
--- `ceilings::accruals_after` meets its contract. The loop's invariant: the sum is that of the accruals from `i` on. Assumes nothing.
+-- `ceilings::accruals_after` meets its contract. The loop's invariant: the sum is that of the accruals from `i` on.
 use borrow.Author.Needs.{needs}
 use Prim.Native.Nat.{_+_, _-_, _≤_, min}
 use mathlib.Core.Path.{_≡_, sym, _∙_}
@@ -6,7 +6,7 @@ use lib.ListN.{length, getD, drop}
 use native.Mathlib.Omega.{arith}
 use native.Mathlib.Nat.{le-refl}
 use Rattle.cash.specs.Units.{B}
-use Rattle.tree.specs.Sheet.{sumOf}
+use Rattle.sheet.specs.Terms.{sumOf}
 use Rattle.rows.proofs.Sums.{sum-drop-most, sum-drop-past, sum-drop-before, sum-drop-from}
 use Rattle.ceilings.proofs.accruals_after.Statement.{statement}
 use Rattle.ceilings.proofs.accruals_after.Tie as tie

@@ -1,5 +1,4 @@
 -- `ceilings::any_over` meets its contract. The loops' invariant: nothing is found, and at no place before `place` is a leg over its ceiling.
--- Assumes nothing.
 use Prim.Native.Nat.{ℕ, suc, _+_, _*_, _-_, _≤_, _<_}
 use mathlib.Core.Path.{_≡_, refl, sym, ap, _∙_}
 use mathlib.Core.Bool.{false}
@@ -7,8 +6,8 @@ use lib.Arith.{digits-lt}
 use lib.ListN.{length}
 use native.Mathlib.Nat.{mul-le-mul}
 use native.Mathlib.Omega.{arith}
-use Rattle.tree.specs.Sheet.{Sheet, defaultMost}
-use Rattle.rows.specs.Limits.{bare}
+use Rattle.sheet.specs.Terms.{Terms, bare}
+use Rattle.tree.specs.Sheet.{defaultMost}
 use Rattle.tranches.proofs.Losses.{losses-long, points-rise, ceiling-read}
 use Rattle.rows.proofs.Parts.{next-tranche}
 use Rattle.ceilings.proofs.Found.{Clean, overAt, clean-none, clean-more, over-default, over-premium, under-both, over-found, over-none}
@@ -51,7 +50,7 @@ module _ (c : tie.In-loop Inv-loop μ-loop Inv-search μ-search) where
   abbrev start : tie.Start Inv-loop μ-loop Inv-search μ-search
   start = c .before .before .before .before .before .before .before .before .before .before
 
-  abbrev x : Sheet
+  abbrev x : Terms
   x = bare (start .args .pool) (start .args .attachments .now)
 
   abbrev j : ℕ
@@ -68,14 +67,14 @@ module _ (c : tie.In-loop Inv-loop μ-loop Inv-search μ-search) where
   small : c .before .loop .place < 1134
   small =
       let l = start .pre .0 .0 in
-      let most : suc (start .args .pool .tranches) * suc (start .args .pool .names) ≤ 9 * 126 = mul-le-mul {n₁ = suc (start .args .pool .tranches)} {m₁ = suc (start .args .pool .names)} {n₂ = 9} {m₂ = 126} (omega (arith, l .tranches-most)) (omega (arith, l .names-most)) in
+      let most : suc (start .args .pool .tranches) * suc (start .args .pool .names) ≤ 9 * 126 = mul-le-mul {n₁ = suc (start .args .pool .tranches)} {m₁ = suc (start .args .pool .names)} {n₂ = 9} {m₂ = 126} (omega (arith, l .pool .tranches)) (omega (arith, l .pool .names)) in
       omega (arith, inside)
 
   long : length (start .args .losses .now) ≡ suc (start .args .pool .names)
   long = ap length (start .pre .0 .1) ∙ losses-long (start .args .pool .names) (start .args .pool .recovery)
 
 mul-tranche-outstanding : tie.Need-mul-tranche-outstanding Inv-loop μ-loop Inv-search μ-search
-mul-tranche-outstanding c = omega (arith, start c .pre .0 .0 .names-most)
+mul-tranche-outstanding c = omega (arith, start c .pre .0 .0 .pool .names)
 
 shared-slice-read-tranche-outstanding : tie.Need-shared-slice-read-tranche-outstanding Inv-loop μ-loop Inv-search μ-search
 shared-slice-read-tranche-outstanding c = omega (arith, long (c .before))
@@ -107,7 +106,7 @@ add-place : tie.Need-add-place Inv-loop μ-loop Inv-search μ-search
 add-place c = omega (arith, small (c .before .before .before .before .before .before))
 
 add-k : tie.Need-add-k Inv-loop μ-loop Inv-search μ-search
-add-k c = omega (arith, start (c .before .before .before .before .before .before) .pre .0 .0 .names-most)
+add-k c = omega (arith, start (c .before .before .before .before .before .before) .pre .0 .0 .pool .names)
 
 loop-less : tie.Need-loop-less Inv-loop μ-loop Inv-search μ-search
 loop-less c = omega arith
@@ -128,7 +127,7 @@ loop-again c =
     )
 
 add-j : tie.Need-add-j Inv-loop μ-loop Inv-search μ-search
-add-j c = omega (arith, c .before .before .before .before .before .before .before .before .before .before .pre .0 .0 .tranches-most)
+add-j c = omega (arith, c .before .before .before .before .before .before .before .before .before .before .pre .0 .0 .pool .tranches)
 
 search-less : tie.Need-search-less Inv-loop μ-loop Inv-search μ-search
 search-less c = omega arith

@@ -1,6 +1,7 @@
--- `ceilings::soiled_with_losses` meets its contract. Assumes nothing.
+-- The search with the losses of the sheet.
 use borrow.Author.Needs.{needs}
 use mathlib.Core.Path.{_∙_}
+use mathlib.Core.List.{[]}
 use Rattle.ceilings.proofs.Found.{soiled-is}
 use Rattle.ceilings.proofs.soiled_with_losses.Statement.{statement}
 use Rattle.ceilings.proofs.soiled_with_losses.Tie as tie
@@ -19,9 +20,9 @@ same-length c = search needs
 
 returns : tie.Need-returns
 returns c =
-    let a = c .before .before .before .before .before .before .before .before .before .before .before .before .before .before .args in
+    let a = c .before .before .before .before .before .before .before .before .before .before .before .before .args in
     c .any-over .ensures
-    ∙ soiled-is (a .pool) (a .attachments .now) (a .hazards .now) (a .discounts .now) (a .accruals .now) (a .defaults .now) (a .premiums .now) (a .position) _ (c .before .before .accruals-after .ensures)
+    ∙ soiled-is (a .pool) (a .attachments .now) [] [] (a .accruals .now) (a .defaults .now) (a .premiums .now) (a .position) _ (c .before .before .accruals-after .ensures)
 
 pub soiled-with-losses-spec : {M : Type 1} → statement M
 soiled-with-losses-spec =

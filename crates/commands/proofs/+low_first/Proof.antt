@@ -1,4 +1,4 @@
--- `commands::low_first` meets its contract; the width falls with each call. Assumes nothing.
+-- `commands::low_first` meets its contract; the width falls with each call.
 use Prim.Native.Nat.{ℕ, _<_}
 use native.Mathlib.Omega.{arith}
 use Rattle.commands.proofs.Low.{none, more, four}

@@ -1,4 +1,4 @@
--- `commands::command_at` meets its contract: each return is what the tests before it pick. Assumes nothing.
+-- `commands::command_at` meets its contract: each return is what the tests before it pick.
 use mathlib.Core.Path.{_≡_, sym, _∙_}
 use mathlib.Core.Bool.{true}
 use native.Mathlib.Omega.{arith}

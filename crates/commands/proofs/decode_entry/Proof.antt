@@ -1,4 +1,4 @@
--- `commands::decode_entry` meets its contract: in each arm the command byte is known, and the operands are those of the definition. Assumes nothing.
+-- `commands::decode_entry` meets its contract: in each arm the command byte is known, and the operands are those of the definition.
 use mathlib.Core.Path.{ap}
 use native.Mathlib.Omega.{arith}
 use Rattle.commands.specs.Commands.{operands}

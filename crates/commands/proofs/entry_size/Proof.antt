@@ -1,4 +1,4 @@
--- `commands::entry_size` meets its contract: in each arm the command is known. Assumes nothing.
+-- `commands::entry_size` meets its contract: in each arm the command is known.
 use mathlib.Core.Path.{sym, ap}
 use Rattle.commands.specs.Commands.{entrySize}
 use borrow.Author.Needs.{needs}

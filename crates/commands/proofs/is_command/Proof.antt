@@ -1,4 +1,4 @@
--- `commands::is_command` meets its contract. Assumes nothing.
+-- `commands::is_command` meets its contract.
 use borrow.Author.Tests.{lt-leb, le-leb}
 use Rattle.commands.proofs.is_command.Statement.{statement}
 use Rattle.commands.proofs.is_command.Tie as tie

@@ -1,4 +1,4 @@
--- `commands::operands_of` meets its contract: the table is that of the definition. Assumes nothing.
+-- `commands::operands_of` meets its contract: the table is that of the definition.
 use mathlib.Core.Path.{refl}
 use Rattle.commands.specs.Commands.{operands}
 use borrow.Author.Needs.{needs}

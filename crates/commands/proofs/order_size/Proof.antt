@@ -1,4 +1,4 @@
--- `commands::order_size` meets its contract: in each arm the command is known. Assumes nothing.
+-- `commands::order_size` meets its contract: in each arm the command is known.
 use mathlib.Core.Path.{sym, ap}
 use Rattle.commands.specs.Commands.{orderSize}
 use borrow.Author.Needs.{needs}

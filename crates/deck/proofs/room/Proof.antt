@@ -1,4 +1,4 @@
--- `deck::room` meets its contract. Assumes nothing.
+-- `deck::room` meets its contract.
 use native.Mathlib.Omega.{arith}
 use Rattle.deck.specs.Listing.{room}
 use borrow.Author.Needs.{needs}

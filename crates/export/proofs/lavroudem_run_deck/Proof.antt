@@ -1,4 +1,3 @@
--- Assumes nothing.
 use mathlib.Core.Path.{sym, _∙_}
 use native.Mathlib.Omega.{arith}
 use Rattle.export.specs.Figures.{bytesIn}

@@ -1,4 +1,4 @@
--- The counts over the next one are done, and those below it are as they came. Assumes nothing.
+-- The counts over the next one are done, and those below it are as they came.
 use borrow.Author.Needs.{needs}
 use Prim.Native.Nat.{ℕ, _+_, _*_, _-_, _≤_, _<_}
 use mathlib.Core.Path.{_≡_, ap, sym, _∙_}
@@ -6,8 +6,7 @@ use native.Mathlib.Nat.{le-trans, le-of-eq}
 use native.Mathlib.Omega.{arith}
 use lib.ListN.{length, getD, length-set}
 use Rattle.cash.specs.Units.{B, half}
-use Rattle.forward.proofs.Moves.{half-part, product-most, product-fits, moves, moves-is, moves-last}
-use Rattle.forward.proofs.Moves.{Pushing, pushing-at, pushing-none, pushing-most, pushing-more, pushing-all}
+use Rattle.forward.proofs.Moves.{half-part, product-most, product-fits, moves, moves-is, moves-last, Pushing, pushing-at, pushing-none, pushing-most, pushing-more, pushing-all}
 use Rattle.forward.proofs.push.Statement.{statement}
 use Rattle.forward.proofs.push.Tie as tie
 

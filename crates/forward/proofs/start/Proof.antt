@@ -1,4 +1,4 @@
--- The row starts afresh: B at the count 0, and each later count that the loop has passed is 0. Assumes nothing.
+-- The row starts afresh: B at the count 0, and each later count that the loop has passed is 0.
 use borrow.Author.Needs.{needs}
 use Prim.Native.Nat.{_*_, _-_, _≤_}
 use mathlib.Core.Path.{_≡_, refl}

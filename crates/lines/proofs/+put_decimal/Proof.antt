@@ -1,4 +1,4 @@
--- `lines::put_decimal` meets its contract; the number falls with each call. Assumes nothing.
+-- `lines::put_decimal` meets its contract; the number falls with each call.
 use Prim.Native.Nat.{ℕ, _<_}
 use native.Mathlib.Omega.{arith}
 use lib.ListN.{length-set}

@@ -1,5 +1,4 @@
 -- `lines::put_bytes` meets its contract. The loop's invariant: `out` is what it was with the first i bytes of `text` written from `at` on.
--- Assumes nothing.
 use Prim.Native.Nat.{ℕ, _+_, _-_, _≤_}
 use mathlib.Core.Path.{_≡_, refl, ap, _∙_}
 use mathlib.Core.List.{List}

@@ -1,4 +1,4 @@
--- `lines::put_count` meets its contract. Assumes nothing.
+-- `lines::put_count` meets its contract.
 use mathlib.Core.Path.{_∙_}
 use native.Mathlib.Omega.{arith}
 use lib.ListN.{length-set}

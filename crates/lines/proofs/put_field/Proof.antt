@@ -1,4 +1,4 @@
--- `lines::put_field` meets its contract. Assumes nothing.
+-- `lines::put_field` meets its contract.
 use mathlib.Core.Path.{_≡_, ap, _∙_}
 use mathlib.Core.List.{List, _∷_}
 use Prim.Native.Nat.{ℕ}
@@ -7,7 +7,7 @@ use lib.ListN.{length, length-set}
 use borrow.Author.Needs.{needs}
 use Rattle.lines.specs.Text.{signed, field}
 use Rattle.lines.proofs.Laws.{wrote-after, wrote-text}
-use Rattle.lines.proofs.Negated.{read, read-is}
+use Rattle.cash.proofs.Negated.{read, read-is}
 use Rattle.lines.proofs.put_field.Statement.{statement}
 use Rattle.lines.proofs.put_field.Tie as tie
 

@@ -1,4 +1,4 @@
--- `lines::put_signed` meets its contract. Assumes nothing.
+-- `lines::put_signed` meets its contract.
 use Prim.Native.Nat.{ℕ}
 use mathlib.Core.Path.{_≡_, ap, _∙_, sym}
 use mathlib.Core.List.{_∷_}
@@ -8,7 +8,8 @@ use lib.ListN.{length, length-set}
 use borrow.Author.Needs.{needs}
 use Rattle.lines.specs.Text.{decimal, signed}
 use Rattle.lines.proofs.Laws.{wrote-after, wrote-text}
-use Rattle.lines.proofs.Negated.{read-is, signed-neg, signed-pos}
+use Rattle.cash.proofs.Negated.{read-is}
+use Rattle.lines.proofs.Written.{signed-neg, signed-pos}
 use Rattle.lines.proofs.put_signed.Statement.{statement}
 use Rattle.lines.proofs.put_signed.Tie as tie
 

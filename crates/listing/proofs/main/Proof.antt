@@ -1,4 +1,4 @@
--- `listing::main` meets its contract: the listing stands in out. Assumes nothing.
+-- `listing::main` meets its contract: the listing stands in out.
 use Prim.Native.Nat.{_≤_}
 use mathlib.Core.Path.{sym, ap, _∙_}
 use native.Mathlib.Omega.{arith}

@@ -1,4 +1,4 @@
--- `listing::output_room` meets its contract, by the law of `replicate`: the list is too long to compute. Assumes nothing.
+-- `listing::output_room` meets its contract, by the law of `replicate`: the list is too long to compute.
 use Prim.Native.Nat.{ℕ}
 use mathlib.Core.Path.{sym}
 use lib.ListN.{length-replicate}

@@ -1,4 +1,4 @@
--- `lists::any_above` meets its contract: no number is below 0. Assumes nothing.
+-- `lists::any_above` meets its contract: no number is below 0.
 use mathlib.Core.Path.{_∙_}
 use borrow.Author.Needs.{needs}
 use Rattle.lists.proofs.Loops.{above-is}

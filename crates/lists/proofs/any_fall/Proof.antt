@@ -1,4 +1,4 @@
--- `lists::any_fall` meets its contract. The numbers below i rise. Assumes nothing.
+-- `lists::any_fall` meets its contract. The numbers below i rise.
 use Prim.Native.Nat.{_≤_, _-_}
 use native.Mathlib.Omega.{arith}
 use borrow.Author.Needs.{needs}

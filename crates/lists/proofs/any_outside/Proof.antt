@@ -1,4 +1,4 @@
--- `lists::any_outside` meets its contract. No number below i is outside. Assumes nothing.
+-- `lists::any_outside` meets its contract. No number below i is outside.
 use Prim.Native.Nat.{ℕ, _+_, _-_, _≤_}
 use mathlib.Core.Path.{_≡_, sym, _∙_}
 use native.Mathlib.Omega.{arith}

@@ -1,4 +1,4 @@
--- `lists::is_outside` meets its contract. Assumes nothing.
+-- `lists::is_outside` meets its contract.
 use mathlib.Core.Path.{sym}
 use borrow.Author.Tests.{le-ltb}
 use Rattle.lists.proofs.Loops.{below}

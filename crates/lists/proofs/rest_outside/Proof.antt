@@ -1,4 +1,4 @@
--- `lists::rest_outside` meets its contract. No number below i is outside. Assumes nothing.
+-- `lists::rest_outside` meets its contract. No number below i is outside.
 use Prim.Native.Nat.{_≤_, _-_}
 use mathlib.Core.Path.{sym, _∙_}
 use native.Mathlib.Omega.{arith}

@@ -1,4 +1,4 @@
--- `lists::sum` meets its contract. The total and what is left make the sum, and the total is at most B for each number passed. Assumes nothing.
+-- `lists::sum` meets its contract. The total and what is left make the sum, and the total is at most B for each number passed.
 use Prim.Native.Nat.{_≤_, _-_, _*_}
 use native.Mathlib.Omega.{arith}
 use borrow.Author.Needs.{needs}

@@ -1,14 +1,17 @@
--- `orders::act` meets its contract: each way out is a law of `Acting`. Assumes nothing.
-use Rattle.desk.specs.Desk.{Entered}
-use Rattle.desk.specs.Held.{enteredBy}
-use Rattle.orders.proofs.Acting.{issue-acts, withdraw-acts, call-acts, forward-acts, roomy-register, roomy-rooms, roomy-row}
+-- `orders::act` meets its contract: each way out is a law of `OrderLaws`.
+use Rattle.entries.specs.Layouts.{draftIn}
+use Rattle.orders.proofs.OrderLaws.{
+  issue-acts,
+  withdraw-acts,
+  call-acts,
+  forward-acts,
+  lengths-register,
+  lengths-rooms,
+  lengths-row,
+}
 use borrow.Author.Needs.{needs}
 use Rattle.orders.proofs.act.Statement.{statement}
 use Rattle.orders.proofs.act.Tie as tie
-
-abbrev sheet : tie.Start → Entered
-sheet s = enteredBy (s .args .given) (s .args .attachments .now) (s .args .hazards .now) (s .args .discounts .now) (s .args .accruals .now)
-    (s .args .coupons .now)
 
 enum-known-order : tie.Need-enum-known-order
 enum-known-order c = search needs
@@ -31,20 +34,20 @@ forward-requires c κs = search needs
 call-requires : tie.Need-call-requires
 call-requires c κs = search needs
 
-walked-requires : tie.Need-walked-requires
-walked-requires c κs = search needs
+of-walk-requires : tie.Need-of-walk-requires
+of-walk-requires c κs = search needs
 
 same-length : tie.Need-same-length
 same-length c = search needs
 
 returns : tie.Need-returns
 returns c =
-    let s = c .before .before .before .before .before .before .before .before .before .before .before .before .before .before .before .before .before in
-    let t = c .before .before in (
-      roomy-register (s .pre) (t .issue .kept .1 .0),
-      issue-acts (s .args .order) (sheet s) (s .args .walk) (s .args .register .now)
+    let s = c .before .before .before .before .before .before .before .before .before .before .before .before .before in
+    let t = c .before .before .issue in (
+      lengths-register (s .pre) (t .kept .1 .0),
+      issue-acts (s .args .order) (draftIn (s .args .layout) (s .args .numbers .now)) (s .args .walk) (s .args .register .now)
           (s .args .defaults .now) (s .args .premiums .now) (s .args .row .now)
-          (c .before .before .before .before .before .order .given .1) (t .issue .ensures .0) (t .issue .ensures .1 .0) (t .issue .ensures .1 .1),
+          (c .before .before .before .before .before .order .given .1) (t .ensures .0) (t .ensures .1 .0) (t .ensures .1 .1),
     )
 
 same-length-2 : tie.Need-same-length-2
@@ -52,12 +55,12 @@ same-length-2 c = search needs
 
 returns-2 : tie.Need-returns-2
 returns-2 c =
-    let s = c .before .before .before .before .before .before .before .before .before .before .before .before .before .before .before .before .before in
-    let t = c .before .before in (
-      roomy-register (s .pre) (t .withdraw .kept .1 .0),
-      withdraw-acts (s .args .order) (sheet s) (s .args .walk) (s .args .register .now)
+    let s = c .before .before .before .before .before .before .before .before .before .before .before .before .before in
+    let t = c .before .before .withdraw in (
+      lengths-register (s .pre) (t .kept .1 .0),
+      withdraw-acts (s .args .order) (draftIn (s .args .layout) (s .args .numbers .now)) (s .args .walk) (s .args .register .now)
           (s .args .defaults .now) (s .args .premiums .now) (s .args .row .now)
-          (c .before .before .before .before .before .order2 .given .1) (t .withdraw .ensures .0) (t .withdraw .ensures .1 .0) (t .withdraw .ensures .1 .1),
+          (c .before .before .before .before .before .order2 .given .1) (t .ensures .0) (t .ensures .1 .0) (t .ensures .1 .1),
     )
 
 same-length-3 : tie.Need-same-length-3
@@ -68,12 +71,12 @@ same-length-4 c = search needs
 
 returns-3 : tie.Need-returns-3
 returns-3 c =
-    let s = c .before .before .before .before .before .before .before .before .before .before .before .before .before .before .before .before .before .before in
-    let t = c .before .before in (
-      roomy-row (s .pre) (t .forward .kept .1 .1 .1 .1 .1 .1 .1 .0),
-      forward-acts (s .args .order) (sheet s) (s .args .walk) (s .args .register .now)
+    let s = c .before .before .before .before .before .before .before .before .before .before .before .before .before .before in
+    let t = c .before .before .forward in (
+      lengths-row (s .pre) (t .kept .1 .1 .1 .0),
+      forward-acts (s .args .order) (draftIn (s .args .layout) (s .args .numbers .now)) (s .args .walk) (s .args .register .now)
           (s .args .defaults .now) (s .args .premiums .now) (s .args .row .now)
-          (c .before .before .before .before .before .before .order3 .given .1) (t .forward .ensures),
+          (c .before .before .before .before .before .before .order3 .given .1) (t .ensures),
     )
 
 same-length-5 : tie.Need-same-length-5
@@ -87,12 +90,12 @@ same-length-7 c = search needs
 
 returns-4 : tie.Need-returns-4
 returns-4 c =
-    let s = c .before .before .before .before .before .before .before .before .before .before .before .before .before .before .before .before .before .before .before .before .before in
-    let t = c .before .before .before .before .before .before in (
-      roomy-rooms (s .pre) (t .call .kept .1 .1 .1 .1 .1 .1 .1 .1 .1 .0) (t .call .kept .1 .1 .1 .1 .1 .1 .1 .1 .1 .1 .0),
-      call-acts (s .args .order) (sheet s) (s .args .walk) (s .args .register .now)
+    let s = c .before .before .before .before .before .before .before .before .before .before .before .before .before .before .before .before .before in
+    let t = c .before .before .before .before .before .before .call in (
+      lengths-rooms (s .pre) (t .kept .1 .1 .1 .1 .1 .0) (t .kept .1 .1 .1 .1 .1 .1 .0),
+      call-acts (s .args .order) (draftIn (s .args .layout) (s .args .numbers .now)) (s .args .walk) (s .args .register .now)
           (s .args .defaults .now) (s .args .premiums .now) (s .args .row .now)
-          (c .before .before .before .before .before .before .before .before .before .before .match .keys4) (t .call .ensures) (c .walked .ensures),
+          (c .before .before .before .before .before .before .before .before .before .before .match .keys4) (t .ensures) (c .of-walk .ensures),
     )
 
 pub act-spec : {M : Type 1} → statement M
@@ -106,7 +109,7 @@ act-spec =
     enum-known-order-3
     forward-requires
     call-requires
-    walked-requires
+    of-walk-requires
     same-length
     returns
     same-length-2

@@ -1,15 +1,15 @@
--- `orders::call` meets its contract: each way out is a law of `Acting`. Assumes nothing.
+-- `orders::call` meets its contract: each way out is a law of `OrderLaws`.
 use mathlib.Core.Path.{_∙_}
-use Rattle.sheet.specs.Brought.{Brought, brought}
-use Rattle.walk.specs.Answers.{Rows}
-use Rattle.walk.specs.Calls.{rowsOf}
-use Rattle.orders.proofs.Acting.{open-calls, back-calls, reads-call}
+use Rattle.sheet.specs.Brought.{Brought}
+use Rattle.sheet.specs.Spans.{broughtIn}
+use Rattle.rows.specs.Rows.{Rows, rowsOf}
+use Rattle.orders.proofs.OrderLaws.{open-calls, back-calls, reads-call}
 use borrow.Author.Needs.{needs}
 use Rattle.orders.proofs.call.Statement.{statement}
 use Rattle.orders.proofs.call.Tie as tie
 
 abbrev sheet : tie.Start → Brought
-sheet s = brought (s .args .pool) (s .args .attachments .now) (s .args .hazards .now) (s .args .discounts .now) (s .args .accruals .now) (s .args .coupons .now)
+sheet s = broughtIn (s .args .sheet) (s .args .numbers .now)
 
 abbrev rooms : tie.Start → Rows
 rooms s = rowsOf (s .args .defaults .now) (s .args .premiums .now)
@@ -37,8 +37,9 @@ same-length-2 c = search needs
 
 returns : tie.Need-returns
 returns c =
-    let s = c .before .before .before .before .before .before .before .before .before .before .before .before .before .before .before .before .before in
-    open-calls (s .args .order) (sheet s) (s .args .register .now) (s .args .walk) (rooms s) (c .before .before .before .before .before .before .before .enum-told .given .1) (c .before .before .before .before .«open» .ensures)
+    let s = c .before .before .before .before .before .before .before .before .before .before .before .before .before in
+    open-calls (s .args .order) (sheet s) (s .args .register .now) (s .args .walk) (rooms s)
+    (c .before .before .before .before .before .before .before .enum-told .given .1) (c .before .before .before .before .«open» .ensures)
 
 same-length-3 : tie.Need-same-length-3
 same-length-3 c = search needs
@@ -48,8 +49,9 @@ same-length-4 c = search needs
 
 returns-2 : tie.Need-returns-2
 returns-2 c =
-    let s = c .before .before .before .before .before .before .before .before .before .before .before .before .before .before .before .before .before .before in
-    back-calls (s .args .order) (sheet s) (s .args .register .now) (s .args .walk) (rooms s) (c .before .before .before .before .before .before .before .before .order .given .1) (c .before .before .before .before .back .ensures)
+    let s = c .before .before .before .before .before .before .before .before .before .before .before .before .before .before in
+    back-calls (s .args .order) (sheet s) (s .args .register .now) (s .args .walk) (rooms s)
+    (c .before .before .before .before .before .before .before .before .order .given .1) (c .before .before .before .before .back .ensures)
 
 same-length-5 : tie.Need-same-length-5
 same-length-5 c = search needs
@@ -59,8 +61,9 @@ same-length-6 c = search needs
 
 returns-3 : tie.Need-returns-3
 returns-3 c =
-    let s = c .before .before .before .before .before .before .before .before .before .before .before .before in
-    c .read .ensures ∙ reads-call (s .args .order) (sheet s) (s .args .register .now) (s .args .walk) (rooms s) (c .before .before .before .match .keys3)
+    let s = c .before .before .before .before .before .before .before .before in
+    c .read .ensures ∙ reads-call (s .args .order) (sheet s) (s .args .register .now) (s .args .walk) (rooms s)
+    (c .before .before .before .match .keys3)
 
 pub call-spec : {M : Type 1} → statement M
 call-spec =

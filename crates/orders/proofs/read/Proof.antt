@@ -1,14 +1,14 @@
--- `orders::read` meets its contract: each way out is a law of `Acting`. Assumes nothing.
-use Rattle.sheet.specs.Brought.{Brought, brought}
-use Rattle.walk.specs.Answers.{Rows}
-use Rattle.walk.specs.Calls.{rowsOf}
-use Rattle.orders.proofs.Acting.{value-reads, delta-reads, nothing-read}
+-- `orders::read` meets its contract: each way out is a law of `OrderLaws`.
+use Rattle.sheet.specs.Brought.{Brought}
+use Rattle.sheet.specs.Spans.{broughtIn}
+use Rattle.rows.specs.Rows.{Rows, rowsOf}
+use Rattle.orders.proofs.OrderLaws.{value-reads, delta-reads, nothing-read}
 use borrow.Author.Needs.{needs}
 use Rattle.orders.proofs.read.Statement.{statement}
 use Rattle.orders.proofs.read.Tie as tie
 
 abbrev sheet : tie.Start → Brought
-sheet s = brought (s .args .pool) (s .args .attachments .now) (s .args .hazards .now) (s .args .discounts .now) (s .args .accruals .now) (s .args .coupons .now)
+sheet s = broughtIn (s .args .sheet) (s .args .numbers .now)
 
 abbrev rooms : tie.Start → Rows
 rooms s = rowsOf (s .args .defaults .now) (s .args .premiums .now)
@@ -27,17 +27,18 @@ hedge-ratio-requires c κs = search needs
 
 returns : tie.Need-returns
 returns c =
-    let s = c .before .before .before .before .before .before .before .before .before .before .before .before in
+    let s = c .before .before .before .before .before .before .before .before in
     value-reads (s .args .order) (sheet s) (s .args .register .now) (s .args .walk) (rooms s) (c .before .before .order .given .1) (c .value .ensures)
 
 returns-2 : tie.Need-returns-2
 returns-2 c =
-    let s = c .before .before .before .before .before .before .before .before .before .before .before .before in
+    let s = c .before .before .before .before .before .before .before .before in
     delta-reads (s .args .order) (sheet s) (s .args .register .now) (s .args .walk) (rooms s) (c .before .before .order2 .given .1) (c .hedge-ratio .ensures)
 
 returns-3 : tie.Need-returns-3
 returns-3 c =
-    let s = c .before .before .before .before .before .before .before .before .before in nothing-read (s .args .order) (sheet s) (s .args .register .now) (s .args .walk) (rooms s) (c .match .keys3)
+    let s = c .before .before .before .before .before in
+    nothing-read (s .args .order) (sheet s) (s .args .register .now) (s .args .walk) (rooms s) (c .match .keys3)
 
 pub read-spec : {M : Type 1} → statement M
 read-spec =

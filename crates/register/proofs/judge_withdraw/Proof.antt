@@ -1,4 +1,4 @@
--- `register::judge_withdraw` meets its contract: by the length, then by what `status` told of the number. Assumes nothing.
+-- `register::judge_withdraw` meets its contract: by the length, then by what `status` told of the number.
 use mathlib.Core.Path.{_≡_, sym, _∙_}
 use borrow.Author.Needs.{needs}
 use Rattle.register.specs.declared.answers.Status.{Status}

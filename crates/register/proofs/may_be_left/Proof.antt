@@ -1,4 +1,4 @@
--- `register::may_be_left` meets its contract. Assumes nothing.
+-- `register::may_be_left` meets its contract.
 use mathlib.Core.Path.{_≡_, sym, ap, _∙_}
 use mathlib.Core.Bool.{Bool, _&&_}
 use borrow.Author.Tests.{eq-eqb, ne-eqb}

@@ -1,4 +1,4 @@
--- `register::status_of` meets its contract. Assumes nothing.
+-- `register::status_of` meets its contract.
 use borrow.Author.Tests.{eq-eqb, ne-eqb}
 use Rattle.register.proofs.status_of.Statement.{statement}
 use Rattle.register.proofs.status_of.Tie as tie

@@ -1,4 +1,4 @@
--- `register::store` meets its contract. Assumes nothing.
+-- `register::store` meets its contract.
 use mathlib.Core.Path.{refl}
 use borrow.Author.Needs.{needs}
 use Rattle.register.proofs.store.Statement.{statement}

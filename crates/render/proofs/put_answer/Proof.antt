@@ -1,22 +1,21 @@
--- `render::put_answer` meets its contract. Assumes nothing.
+-- `render::put_answer` meets its contract.
 use Prim.Native.Nat.{ℕ}
-use mathlib.Core.Path.{_≡_, sym, ap}
+use mathlib.Core.Path.{sym, ap}
 use native.Mathlib.Omega.{arith}
 use mathlib.Core.List.{List}
 use Rattle.lines.proofs.Laws.{wrote-text}
-use Rattle.desk.specs.declared.Answer.{Answer}
-use Rattle.desk.specs.Held.{answerSaid}
-use Rattle.walk.specs.Answers.{Said}
-use Rattle.render.specs.Lines.{told, fields, width}
-use Rattle.render.proofs.Puts.{put, both, last, put-byte, put-zero, put-wide, put-sign, byte-long, zero-long, signed-long, count-fits}
+use Rattle.answers.specs.declared.OrderAnswer.{OrderAnswer}
+use Rattle.answers.specs.OrderAnswers.{answerSaid}
+use Rattle.render.specs.Lines.{answerText, fields, width}
+use Rattle.render.proofs.Puts.{both, last, put-byte, put-zero, put-wide, put-sign, byte-long, zero-long, signed-long, count-fits}
 use borrow.Author.Needs.{needs}
 use Rattle.render.proofs.put_answer.Statement.{statement}
 use Rattle.render.proofs.put_answer.Tie as tie
 
-abbrev text : Answer → List ℕ
-text a = told (answerSaid a)
+abbrev text : OrderAnswer → List ℕ
+text a = answerText (answerSaid a)
 
-abbrev most : Answer → ℕ
+abbrev most : OrderAnswer → ℕ
 most a = width (answerSaid a)
 
 enum-known-answer : tie.Need-enum-known-answer
@@ -33,7 +32,7 @@ same-length : tie.Need-same-length
 same-length c = search needs
 
 returns : tie.Need-returns
-unfolding told fields
+unfolding answerText fields
 returns c =
     let e = c .before .before .before .before .before .answer .given .1 in
     let all = last (put-byte (c .before .before .before .before .before .answer .given .0 .0)
@@ -51,7 +50,7 @@ same-length-2 : tie.Need-same-length-2
 same-length-2 c = search needs
 
 returns-2 : tie.Need-returns-2
-unfolding told fields
+unfolding answerText fields
 returns-2 c =
     let e = c .before .before .before .before .enum-told .given .1 in
     let all = last (put-zero (c .before .before .put-decimal2 .ensures)) in
@@ -74,7 +73,7 @@ same-length-3 : tie.Need-same-length-3
 same-length-3 c = search needs
 
 returns-3 : tie.Need-returns-3
-unfolding told fields
+unfolding answerText fields
 returns-3 c =
     let e = c .before .before .before .before .before .before .before .before .before .answer2 .given .1 in
     let all = both (put-zero (c .before .before .before .before .before .before .put-decimal3 .ensures))
@@ -123,7 +122,7 @@ same-length-4 : tie.Need-same-length-4
 same-length-4 c = search needs
 
 returns-4 : tie.Need-returns-4
-unfolding told fields
+unfolding answerText fields
 returns-4 c =
     let e = c .before .before .before .before .before .before .before .before .before .before .before .before .before .before .before .before .before .answer3 .given .1 in
     let v = c .before .before .before .before .before .before .before .before .before .before .before .before .before .before .before .before .before .answer3 .given .0 in
@@ -157,7 +156,7 @@ same-length-5 : tie.Need-same-length-5
 same-length-5 c = search needs
 
 returns-5 : tie.Need-returns-5
-unfolding told fields
+unfolding answerText fields
 returns-5 c =
     let e = c .before .before .before .before .before .before .before .before .before .answer4 .given .1 in
     let all = both (put-zero (c .before .before .before .before .before .before .put-decimal5 .ensures))
@@ -183,7 +182,7 @@ same-length-6 : tie.Need-same-length-6
 same-length-6 c = search needs
 
 returns-6 : tie.Need-returns-6
-unfolding told fields
+unfolding answerText fields
 returns-6 c =
     let e = c .before .before .before .before .before .before .before .before .before .answer5 .given .1 in
     let all = both (put-zero (c .before .before .before .before .before .before .put-decimal6 .ensures))

@@ -1,4 +1,4 @@
--- `render::put_deck` meets its contract. Assumes nothing.
+-- `render::put_deck` meets its contract.
 use native.Mathlib.Omega.{arith}
 use lib.Dec.{lit≤}
 use Rattle.render.specs.Lines.{line, deckWord, deckLine}

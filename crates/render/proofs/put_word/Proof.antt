@@ -1,4 +1,4 @@
--- `render::put_word` meets its contract. Assumes nothing.
+-- `render::put_word` meets its contract.
 use mathlib.Core.Path.{sym, ap}
 use Rattle.lines.proofs.Laws.{wrote-text}
 use Rattle.render.specs.Lines.{word}

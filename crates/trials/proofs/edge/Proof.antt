@@ -1,6 +1,5 @@
--- `trials::edge` is safe and ends. The measure is how many values are left. Assumes nothing.
-use Prim.Native.Nat.{_≤_, _+_, _-_}
-use native.Mathlib.Omega.{arith}
+-- `trials::edge` is safe and ends. The measure is how many values are left.
+use Prim.Native.Nat.{_≤_, _-_}
 use borrow.Author.Needs.{needs}
 use Rattle.trials.proofs.edge.Statement.{statement}
 use Rattle.trials.proofs.edge.Tie as tie

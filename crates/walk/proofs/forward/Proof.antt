@@ -1,35 +1,39 @@
--- By the checks 1 to 10, then by the steps; the row is then the distribution. Assumes nothing.
+-- By the checks 1 to 10, then by the steps; the row is then the distribution.
 use borrow.Author.Needs.{needs}
-use mathlib.Core.Path.{_≡_, refl, sym, _∙_}
+use mathlib.Core.Path.{_≡_, sym, ap, _∙_}
+use native.Mathlib.Omega.{arith}
+use lib.ListN.{length}
 use mathlib.Core.Bool.{false}
 use mathlib.Core.List.{List, []}
 use Prim.Native.Nat.{ℕ}
-use Rattle.forward.proofs.Alike.{spread-alike}
-use Rattle.sheet.specs.Brought.{Brought, brought}
-use Rattle.sheet.specs.declared.Found.the-variants.{Fine}
-use Rattle.sheet.specs.Tests.{first, poolBad}
-use Rattle.sheet.proofs.Limits.{within}
-use Rattle.walk.specs.Calls.{Filled, tenTests, rowBad, forwardCall}
-use Rattle.walk.specs.Does.{Forwards}
-use Rattle.walk.specs.Ours.{filled}
-use Rattle.walk.proofs.Lengths.{row-told}
-use Rattle.walk.proofs.Ruled.{forwards}
-use Rattle.walk.proofs.Ends.{forward-not, forward-out, forwarding, forward-done}
+use Rattle.forward.proofs.Alike.{hazards-enough}
+use Rattle.sheet.specs.Brought.{Brought}
+use Rattle.sheet.specs.Spans.{broughtIn}
+use Rattle.checks.specs.declared.Found.the-variants.{Fine}
+use Rattle.checks.specs.Tests.{first, poolBad}
+use Rattle.sheet.proofs.Limits.{hazard-most, limits-terms}
+use Rattle.admission.specs.LentTests.{tenTests, rowBad}
+use Rattle.walk.specs.Calls.{ForwardOutcome, forwardCall}
+use Rattle.walk.specs.CallRules.{ForwardRule}
+use Rattle.walk.specs.OurEngine.{forwardResult}
+use Rattle.admission.proofs.Lengths.{row-told}
+use Rattle.walk.proofs.OurRules.{forwards}
+use Rattle.walk.proofs.LastChecks.{forward-not, forward-out, forwarding, forward-done}
 use Rattle.walk.proofs.forward.Statement.{statement}
 use Rattle.walk.proofs.forward.Tie as tie
 
 -- the sheet that is brought
 abbrev sheet : tie.Start → Brought
-sheet s = brought (s .args .pool) (s .args .attachments .now) (s .args .hazards .now) (s .args .discounts .now) (s .args .accruals .now) (s .args .coupons .now)
+sheet s = broughtIn (s .args .sheet) (s .args .numbers .now)
 
 abbrev start : tie.After-to-ten → tie.Start
-start p = p .before .before .before .before .before .before .before .before .before .before
+start p = p .before .before .before .before .before .before
 
 told : (p : tie.After-to-ten) → poolBad (sheet (start p) .sheet) ≡ false → p .before .row-differs .result ≡ rowBad (sheet (start p)) (start p .args .register .now) (start p .args .row .now)
 told p = row-told _ _ _ _ _ _ _ _ (p .before .row-differs .ensures)
 
 -- an outcome that is ours keeps the rule of ours
-gives : (x : Brought) (g q : List ℕ) (i : ℕ) {o : Filled} → o ≡ forwardCall x g q i → (o ≡ forwardCall x g q i) × Forwards x g q i (filled o)
+gives : (x : Brought) (g q : List ℕ) (i : ℕ) {o : ForwardOutcome} → o ≡ forwardCall x g q i → (o ≡ forwardCall x g q i) × ForwardRule x g q i (forwardResult o)
 gives x g q i e = (e, rw e (forwards x g q i))
 
 row-differs-requires : tie.Need-row-differs-requires
@@ -66,13 +70,18 @@ returns-2 c =
     let s = start (t .before .before) in
     gives _ _ _ _ (forward-out (sheet s) (s .args .register .now) (s .args .row .now) _ (told (t .before .before)) (s .args .steps) (ten t) (c .if1 .taken))
 
-spread-requires : tie.Need-spread-requires
-spread-requires c κs =
-    let i = c .before in
+part-requires : tie.Need-part-requires
+part-requires c κs = search needs
+
+distribute-requires : tie.Need-distribute-requires
+distribute-requires c κs =
+    let h = c .before in
+    let i = h .before in
     let t = i .before .before in
     let s = start (t .before .before) in
     let o = forwarding (sheet s) (s .args .register .now) (s .args .row .now) _ (told (t .before .before)) (s .args .steps) (ten t) (i .if1 .left) in
-    (sym (o .limits .lists .hazards), (o .lent .row, within (sheet s) (o .limits) .hazard-most))
+    let e : length (h .part .result .now) ≡ length (sheet s .sheet .hazards) = ap length (h .part .ensures) in
+    (omega (arith, o .lent .row, o .limits .lists .1 .hazards), λ k. rw (h .part .ensures) (hazard-most (sheet s .sheet) (limits-terms (sheet s) (o .limits)) k))
 
 same-length-3 : tie.Need-same-length-3
 same-length-3 c = search needs
@@ -80,12 +89,14 @@ same-length-3 c = search needs
 returns-3 : tie.Need-returns-3
 returns-3 c =
     let b = c .before .before in
-    let i = b .before .before in
+    let h = b .before .before in
+    let i = h .before in
     let t = i .before .before in
     let s = start (t .before .before) in
+    let o = forwarding (sheet s) (s .args .register .now) (s .args .row .now) _ (told (t .before .before)) (s .args .steps) (ten t) (i .if1 .left) in
     gives _ _ _ _
     (forward-done (sheet s) (s .args .register .now) (s .args .row .now) _ (told (t .before .before)) (s .args .steps) (ten t) (i .if1 .left) _
-    (b .spread .ensures ∙ spread-alike _ (sheet s .sheet) refl refl (s .args .steps)))
+    (b .distribute .ensures ∙ hazards-enough (sheet s .sheet) _ (h .part .ensures) (o .limits .lists .1 .hazards) (s .args .steps)))
 
 pub forward-spec : {M : Type 1} → statement M
 forward-spec =
@@ -99,6 +110,7 @@ forward-spec =
     enum-told
     same-length-2
     returns-2
-    spread-requires
+    part-requires
+    distribute-requires
     same-length-3
     returns-3)

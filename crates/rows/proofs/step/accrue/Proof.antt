@@ -1,4 +1,4 @@
--- `rows::step::accrue` meets its contract. The loop's invariant: the entries passed have their premium, the others are as they were. Assumes nothing.
+-- `rows::step::accrue` meets its contract. The loop's invariant: the entries passed have their premium, the others are as they were.
 use borrow.Author.Needs.{needs}
 use Prim.Native.Nat.{_+_, _-_, _≤_}
 use mathlib.Core.Path.{_≡_, refl}

@@ -1,4 +1,4 @@
--- `rows::step::roll` meets its contract. The loop's invariant: the counts passed are rolled, the others as they were. Assumes nothing.
+-- `rows::step::roll` meets its contract. The loop's invariant: the counts passed are rolled, the others as they were.
 use borrow.Author.Needs.{needs}
 use Prim.Native.Nat.{ℕ, suc, _+_, _*_, _-_, _≤_}
 use mathlib.Core.Path.{_≡_, sym, ap, _∙_}

@@ -1,4 +1,4 @@
--- `rows::step::roll_all` meets its contract. The loop's invariant: the tranches passed are rolled, the others as they were. Assumes nothing.
+-- `rows::step::roll_all` meets its contract. The loop's invariant: the tranches passed are rolled, the others as they were.
 use borrow.Author.Needs.{needs}
 use Prim.Native.Nat.{ℕ, suc, _+_, _-_, _≤_}
 use lib.ListN.{length}

@@ -1,4 +1,4 @@
--- `rows::step::roll_node` meets its contract. Assumes nothing.
+-- `rows::step::roll_node` meets its contract.
 use Prim.Native.Nat.{ℕ, _+_, _*_, _-_, _≤_}
 use mathlib.Core.Path.{ap, _∙_}
 use native.Mathlib.Omega.{arith}

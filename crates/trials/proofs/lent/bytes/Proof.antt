@@ -1,4 +1,4 @@
--- `trials::lent::bytes` is safe: what is asked for is shorter than the list. Assumes nothing.
+-- `trials::lent::bytes` is safe: what is asked for is shorter than the list.
 use mathlib.Core.Path.{sym}
 use native.Mathlib.Omega.{arith}
 use lib.Seq.{length-take-le}

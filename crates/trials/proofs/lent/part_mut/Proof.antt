@@ -1,4 +1,4 @@
--- `trials::lent::part_mut` is safe: what is asked for is shorter than the list. Assumes nothing.
+-- `trials::lent::part_mut` is safe: what is asked for is shorter than the list.
 use mathlib.Core.Path.{sym}
 use native.Mathlib.Omega.{arith}
 use lib.Seq.{length-take-le}

@@ -1,4 +1,4 @@
--- `trials::lent::row_length` is safe: 10 times 127 fits. Assumes nothing.
+-- `trials::lent::row_length` is safe: 10 times 127 fits.
 use Prim.Native.Nat.{_*_, _+_, _≤_}
 use native.Mathlib.Nat.{mul-le-mul}
 use native.Mathlib.Omega.{arith}

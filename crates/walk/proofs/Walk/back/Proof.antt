@@ -1,26 +1,27 @@
--- By the checks 1 to 12, then by the steps that are left. Assumes nothing.
+-- By the checks 1 to 12, then by the steps that are left.
 use borrow.Author.Needs.{needs}
 use mathlib.Core.Path.{_≡_, sym, _∙_}
 use mathlib.Core.List.{[]}
-use Rattle.sheet.specs.Brought.{Brought, brought}
-use Rattle.sheet.specs.declared.Found.the-variants.{Fine}
-use Rattle.sheet.specs.Tests.{first}
-use Rattle.walk.specs.Answers.{Rows}
-use Rattle.walk.specs.Calls.{rowsOf, twelveTests}
-use Rattle.walk.proofs.Ends.{on-way, rollable, back-not, back-out, back-done}
-use Rattle.walk.proofs.Tied.{back-promised}
+use Rattle.sheet.specs.Brought.{Brought}
+use Rattle.sheet.specs.Spans.{broughtIn}
+use Rattle.checks.specs.declared.Found.the-variants.{Fine}
+use Rattle.checks.specs.Tests.{first}
+use Rattle.rows.specs.Rows.{Rows, rowsOf}
+use Rattle.walk.specs.Calls.{twelveTests}
+use Rattle.walk.proofs.LastChecks.{on-way, rollable, back-not, back-out, back-done}
+use Rattle.walk.proofs.Contracts.{back-promised}
 use Rattle.walk.proofs.Walk.back.Statement.{statement}
 use Rattle.walk.proofs.Walk.back.Tie as tie
 
 -- the sheet and the rows that are lent
 abbrev sheet : tie.Start → Brought
-sheet s = brought (s .args .pool) (s .args .attachments .now) (s .args .hazards .now) (s .args .discounts .now) (s .args .accruals .now) (s .args .coupons .now)
+sheet s = broughtIn (s .args .sheet) (s .args .numbers .now)
 
 abbrev rows : tie.Start → Rows
 rows s = rowsOf (s .args .defaults .now) (s .args .premiums .now)
 
 abbrev start : tie.After-to-twelve → tie.Start
-start p = p .before .before .before .before .before .before .before .before .before .before .before
+start p = p .before .before .before .before .before .before .before
 
 to-twelve-requires : tie.Need-to-twelve-requires
 to-twelve-requires c κs = search needs

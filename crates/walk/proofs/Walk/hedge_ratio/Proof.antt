@@ -1,17 +1,18 @@
--- By the checks 1 to 12, then by the node, then by the two jumps. Assumes nothing.
+-- By the checks 1 to 12, then by the node, then by the two jumps.
 use borrow.Author.Needs.{needs, sfits-of}
 use mathlib.Core.Path.{_≡_, sym, _∙_, subst}
 use mathlib.Core.List.{List, []}
 use lib.Dec.{ltb}
-use Rattle.sheet.specs.Brought.{Brought, brought}
-use Rattle.sheet.specs.declared.Found.the-variants.{Fine}
-use Rattle.sheet.specs.Tests.{first}
+use Rattle.sheet.specs.Brought.{Brought}
+use Rattle.sheet.specs.Spans.{broughtIn}
+use Rattle.checks.specs.declared.Found.the-variants.{Fine}
+use Rattle.checks.specs.Tests.{first}
 use Rattle.rows.proofs.Search.{met-left, met-right}
 use Rattle.walk.specs.declared.Walk.{Walk}
-use Rattle.walk.specs.Answers.{Rows}
-use Rattle.walk.specs.Calls.{Outcome, rowsOf, twelveTests, ratioCall}
-use Rattle.walk.specs.Does.{Hedges}
-use Rattle.walk.specs.Ours.{moved}
+use Rattle.rows.specs.Rows.{Rows, rowsOf}
+use Rattle.walk.specs.Calls.{Outcome, twelveTests, ratioCall}
+use Rattle.walk.specs.CallRules.{RatioRule}
+use Rattle.walk.specs.OurEngine.{walkResult}
 use Prim.Native.Nat.{ℕ, suc, _≤_}
 use native.Mathlib.Nat.{le-refl, le-of-lt}
 use borrow.Author.Tests.{lt-ltb, le-leb}
@@ -20,30 +21,29 @@ use mir.Val.{toZ, ofZ}
 use mir.ValLaws.{toZ-ofZ}
 use lib.IntN.{ℤ, natAbs}
 use Rattle.cash.specs.Hedges.{hedgeOf}
-use Rattle.rows.specs.Limits.{Tranched}
-use Rattle.tranches.proofs.Losses.{limits-bare}
-use Rattle.walk.specs.Table.{jump}
-use Rattle.walk.specs.Reads.{Readable, hedgeAnswer}
+use Rattle.sheet.specs.Limits.{TranchesWithin}
+use Rattle.sheet.proofs.Limits.{limits-terms}
+use Rattle.figures.specs.Nodes.{jump, Readable}
+use Rattle.walk.specs.Answers.{hedgeAnswer}
 use Rattle.walk.proofs.Ordering.{OnWay}
-use Rattle.walk.proofs.Bounds.{rows-limits}
-use Rattle.walk.proofs.Ruled.{hedges}
-use Rattle.walk.proofs.Ends.{on-way, readable, readable-told, jump-told, jump-few, ratio-not, ratio-off, ratio-done}
+use Rattle.walk.proofs.OurRules.{hedges}
+use Rattle.walk.proofs.LastChecks.{on-way, readable, jump-few, ratio-not, ratio-off, ratio-done}
 use Rattle.walk.proofs.Walk.hedge_ratio.Statement.{statement}
 use Rattle.walk.proofs.Walk.hedge_ratio.Tie as tie
 
 -- the sheet and the rows that are lent
 abbrev sheet : tie.Start → Brought
-sheet s = brought (s .args .pool) (s .args .attachments .now) (s .args .hazards .now) (s .args .discounts .now) (s .args .accruals .now) (s .args .coupons .now)
+sheet s = broughtIn (s .args .sheet) (s .args .numbers .now)
 
 abbrev rows : tie.Start → Rows
 rows s = rowsOf (s .args .defaults .now) (s .args .premiums .now)
 
 abbrev start : tie.After-to-twelve → tie.Start
-start p = p .before .before .before .before .before .before .before .before .before
+start p = p .before .before .before .before .before
 
 -- an outcome that is ours keeps the rule of ours
 gives : (x : Brought) (g : List ℕ) (w : Walk) (l : Rows) (j k : ℕ) {o : Outcome} → o ≡ ratioCall x g w l j k →
-    (o ≡ ratioCall x g w l j k) × Hedges x g w l j k (moved o)
+    (o ≡ ratioCall x g w l j k) × RatioRule x g w l j k (walkResult o)
 gives x g w l j k e = (e, rw e (hedges x g w l j k))
 
 to-twelve-requires : tie.Need-to-twelve-requires
@@ -79,13 +79,9 @@ returns-3 c =
     let i = c .before .before in
     let t = i .before .before in
     let s = start (t .before .before) in
-    gives _ _ _ _ _ _ (ratio-off (sheet s) (s .args .register .now) (s .args .self) (rows s) (passed t) (s .args .tranche) (s .args .count) (met-right (ltb (s .args .pool .tranches) (s .args .tranche)) _ (le-leb _ _ (c .if2 .taken))))
+    gives _ _ _ _ _ _ (ratio-off (sheet s) (s .args .register .now) (s .args .self) (rows s) (passed t) (s .args .tranche) (s .args .count) (met-right (ltb (s .args .sheet .pool .tranches) (s .args .tranche)) _ (le-leb _ _ (c .if2 .taken))))
 
 -- ---- a node on the tree with a next count
-
--- the sheet as a jump sees it
-abbrev part : tie.Start → Brought
-part s = brought (s .args .pool) (s .args .attachments .now) [] [] [] (s .args .coupons .now)
 
 abbrev at-node : tie.Else2 → tie.After-enum-told
 at-node c = c .before .before .before .before
@@ -93,29 +89,29 @@ at-node c = c .before .before .before .before
 abbrev whose : tie.Else2 → tie.Start
 whose c = start (at-node c .before .before)
 
-tranched : (c : tie.Else2) → Tranched (part (whose c) .sheet)
-tranched c = let a = whose c .args in limits-bare (a .pool) (a .attachments .now) (a .hazards .now) (a .discounts .now) (a .accruals .now) (rows-limits (sheet (whose c)) (way (at-node c) .limits))
+within : (c : tie.Else2) → TranchesWithin (sheet (whose c) .sheet)
+within c = limits-terms (sheet (whose c)) (way (at-node c) .limits) .tranches
 
-here : (c : tie.Else2) (j : ℕ) → j ≤ whose c .args .pool .tranches → Readable (part (whose c)) (rows (whose c)) j (whose c .args .count)
-here c j p = let s = whose c in readable-told _ _ _ _ _ _ _ _ _ (s .args .attachments .now) (readable (sheet s) (s .args .register .now) (s .args .self) (rows s) (way (at-node c)) j (s .args .count) p (le-of-lt (c .if2 .left)))
+here : (c : tie.Else2) (j : ℕ) → j ≤ whose c .args .sheet .pool .tranches → Readable (sheet (whose c)) (rows (whose c)) j (whose c .args .count)
+here c j p = let s = whose c in readable (sheet s) (s .args .register .now) (s .args .self) (rows s) (way (at-node c)) j (s .args .count) p (le-of-lt (c .if2 .left))
 
-next : (c : tie.Else2) (j : ℕ) → j ≤ whose c .args .pool .tranches → Readable (part (whose c)) (rows (whose c)) j (suc (whose c .args .count))
-next c j p = let s = whose c in readable-told _ _ _ _ _ _ _ _ _ (s .args .attachments .now) (readable (sheet s) (s .args .register .now) (s .args .self) (rows s) (way (at-node c)) j (suc (s .args .count)) p (c .if2 .left))
+next : (c : tie.Else2) (j : ℕ) → j ≤ whose c .args .sheet .pool .tranches → Readable (sheet (whose c)) (rows (whose c)) j (suc (whose c .args .count))
+next c j p = let s = whose c in readable (sheet s) (s .args .register .now) (s .args .self) (rows s) (way (at-node c)) j (suc (s .args .count)) p (c .if2 .left)
 
-own-tranche : (c : tie.Else2) → whose c .args .tranche ≤ whose c .args .pool .tranches
+own-tranche : (c : tie.Else2) → whose c .args .tranche ≤ whose c .args .sheet .pool .tranches
 own-tranche c = c .before .before .if1 .left
 
 jump-at-requires : tie.Need-jump-at-requires
-jump-at-requires c κs = (tranched c, (here c _ (own-tranche c), next c _ (own-tranche c)))
+jump-at-requires c κs = (within c, (here c _ (own-tranche c), next c _ (own-tranche c)))
 
 jump-at-requires-2 : tie.Need-jump-at-requires-2
-jump-at-requires-2 c κs = let n = c .before in (tranched n, (here n _ (le-refl _), next n _ (le-refl _)))
+jump-at-requires-2 c κs = let n = c .before in (within n, (here n _ (le-refl _), next n _ (le-refl _)))
 
 -- what is read of the two jumps is the jumps
-own-read : (c : tie.After-jump-at2) → let s = whose (c .before .before) in toZ w64 (ofZ w64 (c .before .jump-at .result)) ≡ jump (part s) (rows s) (s .args .tranche) (s .args .count)
+own-read : (c : tie.After-jump-at2) → let s = whose (c .before .before) in toZ w64 (ofZ w64 (c .before .jump-at .result)) ≡ jump (sheet s) (rows s) (s .args .tranche) (s .args .count)
 own-read c = toZ-ofZ w64 (c .before .jump-at .result) (sfits-of (c .before .jump-at .ok)) ∙ c .before .jump-at .ensures
 
-index-read : (c : tie.After-jump-at2) → let s = whose (c .before .before) in toZ w64 (ofZ w64 (c .jump-at2 .result)) ≡ jump (part s) (rows s) (s .args .pool .tranches) (s .args .count)
+index-read : (c : tie.After-jump-at2) → let s = whose (c .before .before) in toZ w64 (ofZ w64 (c .jump-at2 .result)) ≡ jump (sheet s) (rows s) (s .args .sheet .pool .tranches) (s .args .count)
 index-read c = toZ-ofZ w64 (c .jump-at2 .result) (sfits-of (c .jump-at2 .ok)) ∙ c .jump-at2 .ensures
 
 few : {z y : ℤ} → z ≡ y → natAbs y ≤ 200_000_000_000_000_000 → natAbs z ≤ 200_000_000_000_000_000
@@ -125,8 +121,8 @@ ratio-of-requires : tie.Need-ratio-of-requires
 ratio-of-requires c κs =
     let n = c .before .before in
     let s = whose n in (
-      few (own-read c) (jump-few (part s) (rows s) _ _ (tranched n) (here n _ (own-tranche n)) (next n _ (own-tranche n))),
-      few (index-read c) (jump-few (part s) (rows s) _ _ (tranched n) (here n _ (le-refl _)) (next n _ (le-refl _))),
+      few (own-read c) (jump-few (sheet s) (rows s) _ _ (within n) (here n _ (own-tranche n)) (next n _ (own-tranche n))),
+      few (index-read c) (jump-few (sheet s) (rows s) _ _ (within n) (here n _ (le-refl _)) (next n _ (le-refl _))),
     )
 
 returns-4 : tie.Need-returns-4
@@ -135,9 +131,7 @@ returns-4 c =
     let n = q .before .before in
     let s = whose n in
     let a = s .args in
-    let own = own-read q ∙ jump-told (a .pool) (a .attachments .now) (a .hazards .now) (a .discounts .now) (a .accruals .now) (a .coupons .now) (rows s) (a .tranche) (a .count) in
-    let index = index-read q ∙ jump-told (a .pool) (a .attachments .now) (a .hazards .now) (a .discounts .now) (a .accruals .now) (a .coupons .now) (rows s) (a .pool .tranches) (a .count) in
-    let r = c .ratio-of .ensures ∙ (λ i. hedgeAnswer (hedgeOf (own i) (index i))) in
+    let r = c .ratio-of .ensures ∙ (λ i. hedgeAnswer (hedgeOf (own-read q i) (index-read q i))) in
     gives _ _ _ _ _ _
     ((λ i. record { answer = r i; walk = a .self; rows = rows s })
     ∙ ratio-done (sheet s) (a .register .now) (a .self) (rows s) (passed (at-node n)) (a .tranche) (a .count) (own-tranche n) (n .if2 .left))

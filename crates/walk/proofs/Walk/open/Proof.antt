@@ -1,14 +1,14 @@
--- Assumes nothing.
 use borrow.Author.Needs.{needs}
 use mathlib.Core.Path.{_≡_, sym, _∙_}
 use mathlib.Core.Bool.{false}
-use Rattle.sheet.specs.Brought.{Brought, brought}
-use Rattle.sheet.specs.Tests.{poolBad}
-use Rattle.walk.specs.Answers.{Rows}
-use Rattle.walk.specs.Calls.{rowsOf, rowsBad}
-use Rattle.walk.proofs.Lengths.{rows-told}
-use Rattle.walk.proofs.Ends.{open-not, open-done}
-use Rattle.walk.proofs.Tied.{open-promised}
+use Rattle.sheet.specs.Brought.{Brought}
+use Rattle.sheet.specs.Spans.{broughtIn}
+use Rattle.checks.specs.Tests.{poolBad}
+use Rattle.rows.specs.Rows.{Rows, rowsOf}
+use Rattle.admission.specs.LentTests.{rowsBad}
+use Rattle.admission.proofs.Lengths.{rows-told}
+use Rattle.walk.proofs.LastChecks.{open-not, open-done}
+use Rattle.walk.proofs.Contracts.{open-promised}
 use Rattle.walk.proofs.Walk.open.Statement.{statement}
 use Rattle.walk.proofs.Walk.open.Tie as tie
 
@@ -29,13 +29,13 @@ same-length-2 c = search needs
 
 -- the sheet and the rows that are lent
 abbrev sheet : tie.Start → Brought
-sheet s = brought (s .args .pool) (s .args .attachments .now) (s .args .hazards .now) (s .args .discounts .now) (s .args .accruals .now) (s .args .coupons .now)
+sheet s = broughtIn (s .args .sheet) (s .args .numbers .now)
 
 abbrev rows : tie.Start → Rows
 rows s = rowsOf (s .args .defaults .now) (s .args .premiums .now)
 
 abbrev start : tie.After-to-ten → tie.Start
-start p = p .before .before .before .before .before .before .before .before .before .before .before .before
+start p = p .before .before .before .before .before .before .before .before
 
 told : (p : tie.After-to-ten) → poolBad (sheet (start p) .sheet) ≡ false → p .before .rows-differ .result ≡ rowsBad (sheet (start p)) (start p .args .register .now) (rows (start p))
 told p = rows-told _ _ _ _ _ _ _ _ (p .before .rows-differ .ensures)

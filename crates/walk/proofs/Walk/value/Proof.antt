@@ -1,29 +1,30 @@
--- By the checks 1 to 12, then by the node. Assumes nothing.
+-- By the checks 1 to 12, then by the node.
 use borrow.Author.Needs.{needs}
 use mathlib.Core.Path.{_≡_, sym, _∙_}
 use mathlib.Core.List.{[]}
 use lib.Dec.{ltb}
-use Rattle.sheet.specs.Brought.{Brought, brought}
-use Rattle.sheet.specs.declared.Found.the-variants.{Fine}
-use Rattle.sheet.specs.Tests.{first}
+use Rattle.sheet.specs.Brought.{Brought}
+use Rattle.sheet.specs.Spans.{broughtIn}
+use Rattle.checks.specs.declared.Found.the-variants.{Fine}
+use Rattle.checks.specs.Tests.{first}
 use Rattle.rows.proofs.Search.{met-left, met-right}
-use Rattle.walk.specs.Answers.{Rows}
-use Rattle.walk.specs.Calls.{rowsOf, twelveTests}
+use Rattle.rows.specs.Rows.{Rows, rowsOf}
+use Rattle.walk.specs.Calls.{twelveTests}
 use borrow.Author.Tests.{lt-ltb}
-use Rattle.walk.proofs.Ends.{on-way, readable, readable-told, worth-told, value-not, value-off, value-done}
-use Rattle.walk.proofs.Tied.{value-promised}
+use Rattle.walk.proofs.LastChecks.{on-way, readable, value-not, value-off, value-done}
+use Rattle.walk.proofs.Contracts.{value-promised}
 use Rattle.walk.proofs.Walk.value.Statement.{statement}
 use Rattle.walk.proofs.Walk.value.Tie as tie
 
 -- the sheet and the rows that are lent
 abbrev sheet : tie.Start → Brought
-sheet s = brought (s .args .pool) (s .args .attachments .now) (s .args .hazards .now) (s .args .discounts .now) (s .args .accruals .now) (s .args .coupons .now)
+sheet s = broughtIn (s .args .sheet) (s .args .numbers .now)
 
 abbrev rows : tie.Start → Rows
 rows s = rowsOf (s .args .defaults .now) (s .args .premiums .now)
 
 abbrev start : tie.After-to-twelve → tie.Start
-start p = p .before .before .before .before .before .before .before .before .before
+start p = p .before .before .before .before .before
 
 to-twelve-requires : tie.Need-to-twelve-requires
 to-twelve-requires c κs = search needs
@@ -57,7 +58,7 @@ returns-3 c =
     let i = c .before .before in
     let t = i .before .before in
     let s = start (t .before .before) in
-    let e = value-off (sheet s) (s .args .register .now) (s .args .self) (rows s) (passed t) (s .args .tranche) (s .args .count) (met-right (ltb (s .args .pool .tranches) (s .args .tranche)) _ (lt-ltb _ _ (c .if2 .taken))) in
+    let e = value-off (sheet s) (s .args .register .now) (s .args .self) (rows s) (passed t) (s .args .tranche) (s .args .count) (met-right (ltb (s .args .sheet .pool .tranches) (s .args .tranche)) _ (lt-ltb _ _ (c .if2 .taken))) in
     (e, value-promised _ _ _ _ _ _ e)
 
 worth-at-requires : tie.Need-worth-at-requires
@@ -65,16 +66,14 @@ worth-at-requires c κs =
     let i = c .before .before in
     let t = i .before .before in
     let s = start (t .before .before) in
-    readable-told _ _ _ _ _ _ _ _ _ []
-    (readable (sheet s) (s .args .register .now) (s .args .self) (rows s) (on-way _ _ _ _ (passed t)) (s .args .tranche) (s .args .count) (i .if1 .left) (c .if2 .left))
+    readable (sheet s) (s .args .register .now) (s .args .self) (rows s) (on-way _ _ _ _ (passed t)) (s .args .tranche) (s .args .count) (i .if1 .left) (c .if2 .left)
 
 returns-4 : tie.Need-returns-4
 returns-4 c =
     let i = c .before .before .before in
     let t = i .before .before in
     let s = start (t .before .before) in
-    let r = c .worth-at .ensures ∙ worth-told (s .args .pool) (s .args .attachments .now) (s .args .hazards .now) (s .args .discounts .now) (s .args .accruals .now) (s .args .coupons .now) (rows s) (s .args .tranche) (s .args .count) in
-    let e = (λ j. record { answer = r j; walk = s .args .self; rows = rows s })
+    let e = (λ j. record { answer = c .worth-at .ensures j; walk = s .args .self; rows = rows s })
     ∙ value-done (sheet s) (s .args .register .now) (s .args .self) (rows s) (passed t) (s .args .tranche) (s .args .count) (i .if1 .left) (c .before .if2 .left) in
     (e, value-promised _ _ _ _ _ _ e)
 

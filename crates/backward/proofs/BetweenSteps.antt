@@ -1,0 +1,159 @@
+-- A walk back between two of its steps.
+use Prim.Native.Nat.{ℕ, suc, _+_, _-_, _*_, _≤_, _<_}
+use mathlib.Core.Path.{_≡_, refl, ap, sym, _∙_}
+use mathlib.Core.Bool.{cond}
+use mathlib.Core.List.{List}
+use native.Mathlib.Omega.{arith}
+use native.Mathlib.Numerals.{add-one}
+use lib.ListN.{length, getD}
+use Rattle.cash.specs.Units.{B}
+use Rattle.sheet.specs.Terms.{Terms, termsOf, bare}
+use Rattle.sheet.proofs.Limits.{accrual-most}
+use Rattle.tree.specs.Sheet.{outstandingOf, defaultOf, premiumOf}
+use Rattle.rows.specs.Tables.{tab, grid}
+use Rattle.rows.specs.Rows.{rowLength, rowOf, rolled, rolledBack}
+use Rattle.rows.specs.Kernels.{rolledIn, accruedAt, paymentOf, dueIn, RowsFit}
+use Rattle.rows.specs.Rollable.{Rollable}
+use Rattle.sheet.specs.declared.Pool.{Pool}
+use Rattle.tranches.proofs.Losses.{payment-bare, outstanding-bare}
+use Rattle.tables.proofs.Due.{Left, left-filled, accrued-left}
+use Rattle.backward.proofs.OneStep.{default-step, premium-step, defaults-fit, premiums-fit, premiums-low, rollable-back}
+
+-- After `done` of the steps from the rows d and p the rows are ds and ps, by lists and tables that are those of the sheet.
+pub record StepsDone (x : Terms) (d p : List ℕ) (position count : ℕ) (hazards discounts accruals paid left none ds ps : List ℕ) (done : ℕ) : Type 0 where
+  pub ready : Rollable x d p position count
+  pub hazards-is : hazards ≡ x .hazards
+  pub discounts-is : discounts ≡ x .discounts
+  pub accruals-is : accruals ≡ x .accruals
+  pub paid-is : paid ≡ rowOf x (paymentOf x)
+  pub left-is : Left x position count left
+  pub none-long : length none ≡ rowLength x
+  pub none-zero : (n : ℕ) → getD none n 0 ≡ 0
+  pub most : done ≤ count
+  pub defaults : ds ≡ rolledBack x (defaultOf x) position done d
+  pub premiums : ps ≡ rolledBack x (premiumOf x) position done p
+
+-- Before the first step: the lists are parts of the sheet's numbers, and the tables are filled from them.
+module _ (pool : Pool) (attachments hazards discounts accruals a h v c : List ℕ)
+    (a-is : a ≡ attachments) (h-is : h ≡ hazards) (v-is : v ≡ discounts) (c-is : c ≡ accruals) where
+  abbrev x : Terms
+  x = termsOf pool attachments hazards discounts accruals
+
+  pub steps-none : (d p paid left before none : List ℕ) (position count : ℕ) → Rollable x d p position count
+      → paid ≡ rowOf (bare pool a) (paymentOf (bare pool a))
+      → left ≡ cond (dueIn c position count) (rowOf (bare pool a) (outstandingOf (bare pool a))) before
+      → length before ≡ rowLength x → ((n : ℕ) → getD before n 0 ≡ 0) → length none ≡ rowLength x → ((n : ℕ) → getD none n 0 ≡ 0)
+      → StepsDone x d p position count h v c paid left none d p 0
+  unfolding rolledBack rowOf
+  steps-none d p paid left before none position count r e f b o z n =
+      record {
+        ready = r;
+        hazards-is = h-is;
+        discounts-is = v-is;
+        accruals-is = c-is;
+        paid-is =
+            e ∙ (λ t. rowOf (bare pool (a-is t)) (paymentOf (bare pool (a-is t))))
+            ∙ ap (rowOf (bare pool attachments)) (payment-bare pool attachments hazards discounts accruals);
+        left-is =
+            left-filled x (r .limits .tranches) position count left before b o
+            (f ∙ (λ t. cond (dueIn (c-is t) position count) (rowOf (bare pool (a-is t)) (outstandingOf (bare pool (a-is t)))) before)
+            ∙ ap (λ (g : ℕ → ℕ → ℕ). cond (dueIn accruals position count) (rowOf (bare pool attachments) g) before)
+            (outstanding-bare pool attachments hazards discounts accruals));
+        none-long = z;
+        none-zero = n;
+        most = omega arith;
+        defaults = refl;
+        premiums = refl;
+      }
+
+module _ {x : Terms} {d p : List ℕ} {position count : ℕ} {hazards discounts accruals paid left none ds ps : List ℕ} {done : ℕ}
+    (g : StepsDone x d p position count hazards discounts accruals paid left none ds ps done) where
+  pub now-rollable : Rollable x ds ps (position - done) (count - done)
+  now-rollable = rw (g .defaults, g .premiums) (rollable-back x d p position count done (g .ready) (g .most))
+
+  pub defaults-kept : length ds ≡ length d
+  defaults-kept = now-rollable .defaults-long ∙ sym (g .ready .defaults-long)
+
+  pub premiums-kept : length ps ≡ length p
+  premiums-kept = now-rollable .premiums-long ∙ sym (g .ready .premiums-long)
+
+  -- the step that is next leads to i
+  module _ (i : ℕ) (i-is : i ≡ position - (done + 1)) (more : done < count) where
+    next-rollable : Rollable x ds ps (suc i) (count - done)
+    next-rollable =
+        let e : position - done ≡ suc i = omega (arith, g .ready .count-most) in
+        rw e at now-rollable
+
+    inside : i < x .steps
+    inside = next-rollable .position-most
+
+    pub discount-there : i < length discounts
+    discount-there = let e : length discounts ≡ length (x .discounts) = ap length (g .discounts-is) in omega (arith, inside, g .ready .limits .curves .discounts)
+
+    pub accrual-there : i < length accruals
+    accrual-there = let e : length accruals ≡ length (x .accruals) = ap length (g .accruals-is) in omega (arith, inside, g .ready .limits .curves .accruals)
+
+    pub accrual-low : getD accruals i 0 ≤ B
+    accrual-low = rw (g .accruals-is) (accrual-most x (g .ready .limits) i)
+
+    pub roll-fits : RowsFit (suc (x .tranches)) (x .names) ds hazards (getD discounts i 0) paid
+    roll-fits =
+        rw (g .hazards-is, g .discounts-is)
+        (defaults-fit x (g .ready .limits) i inside ds paid (next-rollable .defaults-long) (next-rollable .defaults-most) (g .paid-is))
+
+    pub left-long : length left ≡ length ps
+    left-long = g .left-is .long ∙ sym (next-rollable .premiums-long)
+
+    pub left-low : (n : ℕ) → n < length ps → getD left n 0 ≤ B
+    left-low n h = g .left-is .low n (rw (next-rollable .premiums-long) at h)
+
+    -- the premium added is that of what is outstanding
+    accrued-is : (es : List ℕ) → es ≡ tab (length ps) (accruedAt (getD accruals i 0) left ps)
+        → es ≡ tab (length ps) (accruedAt (getD (x .accruals) i 0) (rowOf x (outstandingOf x)) ps)
+    accrued-is es e =
+        accrued-left x position count left (g .left-is) done i more i-is ps es (next-rollable .premiums-long) (rw (g .accruals-is) at e)
+
+    pub premium-low : (n : ℕ) → n < length ps → getD ps n 0 ≤ 18 * B
+    premium-low = premiums-low x (g .ready .limits) i inside ps (next-rollable .premiums-long) (next-rollable .premiums-most)
+
+    pub accrued-fits : (es : List ℕ) → es ≡ tab (length ps) (accruedAt (getD accruals i 0) left ps)
+        → RowsFit (suc (x .tranches)) (x .names) es hazards (getD discounts i 0) none
+    accrued-fits es e =
+        rw (g .hazards-is, g .discounts-is)
+        (premiums-fit x (g .ready .limits) i inside ps (rowOf x (outstandingOf x)) es none (next-rollable .premiums-long)
+        (next-rollable .premiums-most) refl (g .none-long) (g .none-zero) (accrued-is es e))
+
+    pub steps-more : (ds' es ps' : List ℕ)
+        → ds' ≡ grid (suc (x .tranches)) (suc (x .names)) (rolledIn (suc (x .names)) hazards (getD discounts i 0) paid ds)
+        → es ≡ tab (length ps) (accruedAt (getD accruals i 0) left ps)
+        → ps' ≡ grid (suc (x .tranches)) (suc (x .names)) (rolledIn (suc (x .names)) hazards (getD discounts i 0) none es)
+        → StepsDone x d p position count hazards discounts accruals paid left none ds' ps' (done + 1)
+    unfolding rolledBack
+    steps-more ds' es ps' e f q =
+        let s : i ≡ position - suc done = omega arith in
+        record {
+          ready = g .ready;
+          hazards-is = g .hazards-is;
+          discounts-is = g .discounts-is;
+          accruals-is = g .accruals-is;
+          paid-is = g .paid-is;
+          left-is = g .left-is;
+          none-long = g .none-long;
+          none-zero = g .none-zero;
+          most = omega arith;
+          defaults =
+              rw (add-one done)
+              (default-step x (g .ready .limits) i ds paid ds' (g .paid-is) (rw (g .hazards-is, g .discounts-is) at e)
+              ∙ (λ t. rolled x (defaultOf x) (s t) (g .defaults t)));
+          premiums =
+              rw (add-one done)
+              (premium-step x (g .ready .limits) i ps (rowOf x (outstandingOf x)) es none ps' (next-rollable .premiums-long) refl (g .none-zero) (accrued-is es f)
+              (rw (g .hazards-is, g .discounts-is) at q)
+              ∙ (λ t. rolled x (premiumOf x) (s t) (g .premiums t)));
+        }
+
+  pub defaults-end : done ≡ count → ds ≡ rolledBack x (defaultOf x) position count d
+  defaults-end e = g .defaults ∙ ap (λ (n : ℕ). rolledBack x (defaultOf x) position n d) e
+
+  pub premiums-end : done ≡ count → ps ≡ rolledBack x (premiumOf x) position count p
+  premiums-end e = g .premiums ∙ ap (λ (n : ℕ). rolledBack x (premiumOf x) position n p) e

@@ -1,0 +1,176 @@
+-- The loop's invariant: the rows are `done` steps back, and the lists and tables are those of the sheet.
+use borrow.Author.Needs.{needs}
+use Prim.Native.Nat.{ℕ, _+_, _-_, _<_}
+use mathlib.Core.List.{List}
+use mathlib.Core.Path.{_≡_, refl, sym, ap, subst}
+use native.Mathlib.Omega.{arith}
+use lib.ListN.{length}
+use Rattle.sheet.specs.Spans.{termsIn}
+use Rattle.sheet.specs.Limits.{TranchesWithin}
+use Rattle.sheet.specs.Terms.{bare}
+use Rattle.sheet.proofs.Limits.{tranches-bare}
+use Rattle.backward.proofs.BetweenSteps.{StepsDone, steps-none, steps-more, discount-there, accrual-there, accrual-low, roll-fits, left-long, left-low, premium-low, accrued-fits, defaults-kept, premiums-kept, defaults-end, premiums-end}
+use Rattle.backward.proofs.walk_with_tables.Statement.{statement}
+use Rattle.backward.proofs.walk_with_tables.Tie as tie
+
+abbrev Inv-loop : tie.InvT-loop
+Inv-loop sheet numbers defaults₀ premiums₀ position count paid left none hazards discounts accruals done₀ defaults premiums done =
+    StepsDone (termsIn sheet numbers) defaults₀ premiums₀ position count hazards discounts accruals paid left none defaults premiums done
+
+abbrev μ-loop : tie.MeasureT-loop
+μ-loop sheet numbers defaults₀ premiums₀ position count paid left none hazards discounts accruals done₀ defaults premiums done = count - done
+
+-- ---- places
+
+abbrev Parts : Type 0
+Parts = tie.After-part4 Inv-loop μ-loop
+
+abbrev start : Parts → tie.Start Inv-loop μ-loop
+start p = p .before .before .before .before .before .before .before .before .before .before .before
+
+abbrev InLoop : Type 0
+InLoop = tie.In-loop Inv-loop μ-loop
+
+abbrev parts : InLoop → Parts
+parts c = c .before .before .before .before .before .before .before .before .before .before
+
+-- the step that the loop leads to
+abbrev to : InLoop → ℕ
+to c = start (parts c) .args .position - (c .before .loop .done + 1)
+
+-- ---- needs
+
+part-requires : tie.Need-part-requires Inv-loop μ-loop
+part-requires c κs = search needs
+
+part-requires-2 : tie.Need-part-requires-2 Inv-loop μ-loop
+part-requires-2 c κs = search needs
+
+part-requires-3 : tie.Need-part-requires-3 Inv-loop μ-loop
+part-requires-3 c κs = search needs
+
+part-requires-4 : tie.Need-part-requires-4 Inv-loop μ-loop
+part-requires-4 c κs = search needs
+
+fits : (p : Parts) → TranchesWithin (bare (start p .args .sheet .pool) (p .before .before .before .part .result .now))
+fits p =
+    let s = start p in
+    subst (λ (l : List ℕ). TranchesWithin (bare (s .args .sheet .pool) l)) (sym (p .before .before .before .part .ensures))
+    (tranches-bare (s .args .sheet .pool) _ _ _ _ (s .pre .0 .limits .tranches))
+
+payments-requires : tie.Need-payments-requires Inv-loop μ-loop
+payments-requires c κs = let p = c .before in (fits p, start p .pre .1 .0)
+
+outstandings-due-requires : tie.Need-outstandings-due-requires Inv-loop μ-loop
+outstandings-due-requires c κs =
+    let p = c .before .before .before .before .before in
+    let s = start p in
+    let e : length (p .part4 .result .now) ≡ length (termsIn (s .args .sheet) (s .args .numbers .now) .accruals) = ap length (p .part4 .ensures) in
+    ((fits p, s .pre .1 .1 .0 .0), (omega (arith, s .pre .0 .position-most, s .pre .0 .limits .curves .accruals), s .pre .0 .count-most))
+
+loop-holds : tie.Need-loop-holds Inv-loop μ-loop
+loop-holds c =
+    let p = c .before .before .before .before .before .before .before .before in
+    let s = start p in
+    steps-none (s .args .sheet .pool) _ _ _ _ _ _ _ _ (p .before .before .before .part .ensures) (p .before .before .part2 .ensures) (p .before .part3 .ensures) (p .part4 .ensures)
+    _ _ _ _ _ _ _ _ (s .pre .0) (c .before .before .before .before .before .before .payments .ensures) (c .before .before .outstandings-due .ensures)
+    (s .pre .1 .1 .0 .0) (s .pre .1 .1 .0 .1) (s .pre .1 .1 .1 .0) (s .pre .1 .1 .1 .1)
+
+add-done : tie.Need-add-done Inv-loop μ-loop
+add-done c = omega (arith, c .before .loop .inv .ready .count-most)
+
+sub-i : tie.Need-sub-i Inv-loop μ-loop
+sub-i c = omega (arith, c .before .loop .inv .ready .count-most)
+
+discount-within : (c : InLoop) → to c < length (parts c .before .part3 .result .now)
+discount-within c = discount-there (c .before .loop .inv) (to c) refl (c .loop-test .taken)
+
+accrual-within : (c : InLoop) → to c < length (parts c .part4 .result .now)
+accrual-within c = accrual-there (c .before .loop .inv) (to c) refl (c .loop-test .taken)
+
+mul-discount : tie.Need-mul-discount Inv-loop μ-loop
+mul-discount c = omega (arith, discount-within c)
+
+shared-slice-read-discount : tie.Need-shared-slice-read-discount Inv-loop μ-loop
+shared-slice-read-discount c = discount-within (c .before)
+
+mul-accrual : tie.Need-mul-accrual Inv-loop μ-loop
+mul-accrual c = omega (arith, accrual-within (c .before))
+
+shared-slice-read-accrual : tie.Need-shared-slice-read-accrual Inv-loop μ-loop
+shared-slice-read-accrual c = accrual-within (c .before .before)
+
+roll-all-requires : tie.Need-roll-all-requires Inv-loop μ-loop
+roll-all-requires c κs = let i = c .before .before .before .before in roll-fits (i .before .loop .inv) (to i) refl (i .loop-test .taken)
+
+accrue-requires : tie.Need-accrue-requires Inv-loop μ-loop
+accrue-requires c κs =
+    let i = c .before .before .before .before .before .before .before .before .before in
+    let g = i .before .loop .inv in (
+      (accrual-low g (to i) refl (i .loop-test .taken), left-long g (to i) refl (i .loop-test .taken)),
+      (left-low g (to i) refl (i .loop-test .taken), premium-low g (to i) refl (i .loop-test .taken)),
+    )
+
+roll-all-requires-2 : tie.Need-roll-all-requires-2 Inv-loop μ-loop
+roll-all-requires-2 c κs =
+    let i = c .before .before .before .before .before .before .before .before .before .before .before .before .before in
+    accrued-fits (i .before .loop .inv) (to i) refl (i .loop-test .taken) _ (c .before .before .before .accrue .ensures)
+
+loop-less : tie.Need-loop-less Inv-loop μ-loop
+loop-less c = omega arith
+
+loop-again : tie.Need-loop-again Inv-loop μ-loop
+loop-again c =
+    let a = c .before .before .before .before .before .before in
+    let r = a .before .before .before .before .before in
+    let i = r .before .before .before .before .before in
+    steps-more (i .before .loop .inv) (to i) refl (i .loop-test .taken) _ _ _ (r .roll-all .ensures) (a .accrue .ensures) (c .before .before .roll-all2 .ensures)
+
+same-length : tie.Need-same-length Inv-loop μ-loop
+same-length c = defaults-kept (c .before .loop .inv)
+
+same-length-2 : tie.Need-same-length-2 Inv-loop μ-loop
+same-length-2 c = premiums-kept (c .before .loop .inv)
+
+same-length-3 : tie.Need-same-length-3 Inv-loop μ-loop
+same-length-3 c = search needs
+
+same-length-4 : tie.Need-same-length-4 Inv-loop μ-loop
+same-length-4 c = search needs
+
+returns : tie.Need-returns Inv-loop μ-loop
+returns c =
+    let g = c .before .loop .inv in
+    let s = start (c .before .before .before .before .before .before .before .before .before .before) in
+    let e : c .before .loop .done ≡ s .args .count = omega (arith, g .most) in
+    (defaults-end g e, premiums-end g e)
+
+pub walk-with-tables-spec : {M : Type 1} → statement M
+walk-with-tables-spec =
+    tie.close
+    (tie.spec
+    Inv-loop
+    μ-loop
+    part-requires
+    part-requires-2
+    part-requires-3
+    part-requires-4
+    payments-requires
+    outstandings-due-requires
+    loop-holds
+    add-done
+    sub-i
+    mul-discount
+    shared-slice-read-discount
+    mul-accrual
+    shared-slice-read-accrual
+    roll-all-requires
+    accrue-requires
+    roll-all-requires-2
+    loop-less
+    loop-again
+    same-length
+    same-length-2
+    same-length-3
+    same-length-4
+    returns)

@@ -1,5 +1,0 @@
-pub mod Desk
-pub mod Entries
-pub mod Orders
-pub mod Called
-pub mod Held

@@ -1,0 +1,117 @@
+-- `entries::add` meets its contract: each way out is a law of `Entering`.
+use native.Mathlib.Omega.{arith}
+use Rattle.entries.proofs.Entering.{coupon-room, pool-adds, attachment-adds, hazard-adds, step-adds, coupon-adds}
+use borrow.Author.Needs.{needs}
+use Rattle.entries.proofs.add.Statement.{statement}
+use Rattle.entries.proofs.add.Tie as tie
+
+enum-known-entry : tie.Need-enum-known-entry
+enum-known-entry c = search needs
+
+pool-figures-requires : tie.Need-pool-figures-requires
+pool-figures-requires c κs = search needs
+
+returns : tie.Need-returns
+returns c =
+    let s = c .before .before .before .before .before .before in
+    pool-adds (s .args .entry) (s .args .layout) (s .args .numbers .now) (s .pre .0) (s .pre .1) (c .before .before .entry .given .1) (c .pool-figures .ensures)
+
+enum-known-entry-2 : tie.Need-enum-known-entry-2
+enum-known-entry-2 c = search needs
+
+append-requires : tie.Need-append-requires
+append-requires c κs = search needs
+
+same-length : tie.Need-same-length
+same-length c = search needs
+
+returns-2 : tie.Need-returns-2
+returns-2 c =
+    let s = c .before .before .before .before .before .before .before .before .before in
+    let t = c .before .before .append .ensures in
+    attachment-adds (s .args .entry) (s .args .layout) (s .args .numbers .now) (s .pre .0) (s .pre .1)
+    (c .before .before .before .before .before .entry2 .given .1) (t .0) (t .1)
+
+enum-known-entry-3 : tie.Need-enum-known-entry-3
+enum-known-entry-3 c = search needs
+
+append-requires-2 : tie.Need-append-requires-2
+append-requires-2 c κs = search needs
+
+same-length-2 : tie.Need-same-length-2
+same-length-2 c = search needs
+
+returns-3 : tie.Need-returns-3
+returns-3 c =
+    let s = c .before .before .before .before .before .before .before .before .before in
+    let t = c .before .before .append2 .ensures in
+    hazard-adds (s .args .entry) (s .args .layout) (s .args .numbers .now) (s .pre .0) (s .pre .1)
+    (c .before .before .before .before .before .entry3 .given .1) (t .0) (t .1)
+
+enum-known-entry-4 : tie.Need-enum-known-entry-4
+enum-known-entry-4 c = search needs
+
+append-requires-3 : tie.Need-append-requires-3
+append-requires-3 c κs = search needs
+
+append-requires-4 : tie.Need-append-requires-4
+append-requires-4 c κs = search needs
+
+same-length-3 : tie.Need-same-length-3
+same-length-3 c = search needs
+
+returns-4 : tie.Need-returns-4
+returns-4 c =
+    let s = c .before .before .before .before .before .before .before .before .before .before .before .before .before in
+    let t = c .before .before .before .before .before .before .append3 .ensures in
+    let u = c .before .before .append4 .ensures in
+    step-adds (s .args .entry) (s .args .layout) (s .args .numbers .now) (s .pre .0) (s .pre .1)
+    (c .before .before .before .before .before .before .before .before .before .entry4 .given .1) (t .0) (t .1) (u .0) (u .1)
+
+enum-known-entry-5 : tie.Need-enum-known-entry-5
+enum-known-entry-5 c = search needs
+
+append-requires-5 : tie.Need-append-requires-5
+append-requires-5 c κs =
+    let s = c .before .before .before .before .before .before in
+    omega (
+      arith,
+      s .pre .0,
+      coupon-room (s .args .entry) (s .args .layout) (s .args .numbers .now) (s .pre .0) (s .pre .1)
+          (c .before .before .entry5 .given .1),
+    )
+
+same-length-4 : tie.Need-same-length-4
+same-length-4 c = search needs
+
+returns-5 : tie.Need-returns-5
+returns-5 c =
+    let s = c .before .before .before .before .before .before .before .before .before in
+    let t = c .before .before .append5 .ensures in
+    coupon-adds (s .args .entry) (s .args .layout) (s .args .numbers .now) (s .pre .0) (s .pre .1)
+    (c .before .before .before .before .before .entry5 .given .1) (t .0) (t .1)
+
+pub add-spec : {M : Type 1} → statement M
+add-spec =
+    tie.close
+    (tie.spec
+    enum-known-entry
+    pool-figures-requires
+    returns
+    enum-known-entry-2
+    append-requires
+    same-length
+    returns-2
+    enum-known-entry-3
+    append-requires-2
+    same-length-2
+    returns-3
+    enum-known-entry-4
+    append-requires-3
+    append-requires-4
+    same-length-3
+    returns-4
+    enum-known-entry-5
+    append-requires-5
+    same-length-4
+    returns-5)

@@ -1,0 +1,79 @@
+-- The sheet as commands 01 to 05 enter it (document 01, 'Deck and printing program').
+use mathlib.Core.Bool.{Bool, true, false, not}
+use mathlib.Core.List.{[], _∷_, _++_}
+use lib.Dec.{ltb}
+use lib.ListN.{length}
+use Rattle.commands.specs.declared.Entry.{Entry}
+use Rattle.commands.specs.declared.Entry.the-variants.{Pool, Attachment, Hazard, Step, Coupon}
+use Rattle.sheet.specs.declared.Pool as Declared
+use Rattle.sheet.specs.Brought.{Brought, brought}
+
+-- Whether there was a pool command, and the sheet that a call would bring.
+pub record Draft : Type 0 where
+  pub pooled : Bool
+  pub brought : Brought
+
+-- Without a pool command n, m, r, R and the number are 0.
+abbrev pub noPool : Declared.Pool
+noPool = record { names = 0; steps = 0; tranches = 0; recovery = 0; number = 0 }
+
+abbrev pub emptyDraft : Draft
+emptyDraft = record { pooled = false; brought = brought noPool [] [] [] [] [] }
+
+-- 20, too many: a second pool; more than 9 attachment points or coupons, 125 hazards, 3,650 steps.
+unfoldable pub hasRoom : Entry → Draft → Bool
+hasRoom (Pool n m r recovery number) g = not (g .pooled)
+hasRoom (Attachment a) g = ltb (length (g .brought .sheet .attachments)) 9
+hasRoom (Hazard p) g = ltb (length (g .brought .sheet .hazards)) 125
+hasRoom (Step v d) g = ltb (length (g .brought .sheet .discounts)) 3650
+hasRoom (Coupon s) g = ltb (length (g .brought .coupons)) 9
+
+-- The figures of a sheet but for its lists.
+abbrev pub poolOf : Brought → Declared.Pool
+poolOf x =
+    record {
+      names = x .sheet .names;
+      steps = x .sheet .steps;
+      tranches = x .sheet .tranches;
+      recovery = x .sheet .recovery;
+      number = x .number;
+    }
+
+-- The draft with an entry more: a pool's figures, or a number behind its list, a step's behind two.
+unfoldable pub added : Entry → Draft → Draft
+added (Pool n m r recovery number) g =
+    let x = g .brought in
+    let pool : Declared.Pool = record { names = n; steps = m; tranches = r; recovery = recovery; number = number } in
+    record {
+      pooled = true;
+      brought = brought pool (x .sheet .attachments) (x .sheet .hazards) (x .sheet .discounts) (x .sheet .accruals) (x .coupons);
+    }
+added (Attachment a) g =
+    let x = g .brought in
+    record {
+      pooled = g .pooled;
+      brought =
+          brought (poolOf x) (x .sheet .attachments ++ (a ∷ [])) (x .sheet .hazards) (x .sheet .discounts) (x .sheet .accruals) (x .coupons);
+    }
+added (Hazard p) g =
+    let x = g .brought in
+    record {
+      pooled = g .pooled;
+      brought =
+          brought (poolOf x) (x .sheet .attachments) (x .sheet .hazards ++ (p ∷ [])) (x .sheet .discounts) (x .sheet .accruals) (x .coupons);
+    }
+added (Step v d) g =
+    let x = g .brought in
+    record {
+      pooled = g .pooled;
+      brought =
+          brought (poolOf x) (x .sheet .attachments) (x .sheet .hazards) (x .sheet .discounts ++ (v ∷ [])) (x .sheet .accruals ++ (d ∷ []))
+          (x .coupons);
+    }
+added (Coupon s) g =
+    let x = g .brought in
+    record {
+      pooled = g .pooled;
+      brought =
+          brought (poolOf x) (x .sheet .attachments) (x .sheet .hazards) (x .sheet .discounts) (x .sheet .accruals) (x .coupons ++ (s ∷ []));
+    }

@@ -1,0 +1,167 @@
+// The sheet of a deck, as commands 01 to 05 enter it: figures by value, and all of its lists in one lent list of numbers.
+ghost use mathlib.Core.Path.{_≡_};
+ghost use mathlib.Core.Bool.{true};
+ghost use mathlib.Core.List.{List};
+ghost use Prim.Native.Nat.{ℕ, _+_, _<_};
+ghost use lib.ListN.{length};
+ghost use Rattle.entries.specs.Draft.{hasRoom, added};
+ghost use Rattle.entries.specs.Layouts.{poolFigures, emptyLayout, draftIn, LayoutLimits, longer, stored};
+use commands::Entry;
+use sheet::NAMES_MOST;
+use sheet::POINTS_MOST;
+use sheet::Pool;
+use sheet::STEPS_MOST;
+use sheet::Sheet;
+use sheet::Span;
+
+// Where the lists start among the numbers, each with room for the most entries; the attachments start at 0.
+const HAZARDS: usize = POINTS_MOST;
+
+const DISCOUNTS: usize = HAZARDS + NAMES_MOST;
+
+const ACCRUALS: usize = DISCOUNTS + STEPS_MOST;
+
+const COUPONS: usize = ACCRUALS + STEPS_MOST;
+
+// How many numbers are lent.
+pub const NUMBERS: usize = COUPONS + POINTS_MOST;
+
+// Whether there was a pool command, and the sheet so far. The starts of its spans stay, and their lengths grow.
+pub struct Layout {
+    pub pooled: bool,
+    pub sheet: Sheet,
+}
+
+// Without a pool command all figures are 0.
+pub fn empty() -> Layout
+    ensures { λ r. ⌜ r ≡ emptyLayout ⌝ }
+{
+    Layout {
+        pooled: false,
+        sheet: Sheet {
+            pool: Pool {
+                names: 0,
+                steps: 0,
+                tranches: 0,
+                recovery: 0,
+                number: 0,
+            },
+            attachments: Span { at: 0, length: 0 },
+            hazards: Span {
+                at: HAZARDS,
+                length: 0,
+            },
+            discounts: Span {
+                at: DISCOUNTS,
+                length: 0,
+            },
+            accruals: Span {
+                at: ACCRUALS,
+                length: 0,
+            },
+            coupons: Span {
+                at: COUPONS,
+                length: 0,
+            },
+        },
+    }
+}
+
+// Whether there is room for an entry: for one pool, 9 attachment points and coupons, 125 hazards and 3,650 steps (20).
+pub fn has_room(entry: Entry, layout: Layout) -> bool
+    ensures { λ r. ⌜ ((numbers : List ℕ) → LayoutLimits layout numbers → r ≡ hasRoom entry (draftIn layout numbers)) ⌝ }
+{
+    let sheet = layout.sheet;
+    match entry {
+        Entry::Pool {
+            names: _,
+            steps: _,
+            tranches: _,
+            recovery: _,
+            number: _,
+        } => !layout.pooled,
+        Entry::Attachment(_) => sheet.attachments.length < POINTS_MOST,
+        Entry::Hazard(_) => sheet.hazards.length < NAMES_MOST,
+        Entry::Step {
+            discount: _,
+            accrual: _,
+        } => sheet.discounts.length < STEPS_MOST,
+        Entry::Coupon(_) => sheet.coupons.length < POINTS_MOST,
+    }
+}
+
+// Stores a number behind a list, and answers the longer span.
+fn append(span: Span, numbers: &mut [u64], number: u64) -> Span
+    requires { ⌜ span .at + span .length < length (now numbers) ⌝ }
+    ensures longer { λ r. ⌜ r ≡ longer span ⌝ }
+    ensures stores { λ _. ⌜ now (numbers .exit) ≡ stored span number (now (numbers .entry)) ⌝ }
+{
+    let at = span.at;
+    let length = span.length;
+    let end = at + length;
+    numbers[end] = number;
+    Span {
+        at,
+        length: length + 1,
+    }
+}
+
+// The pool of a command.
+fn pool_figures(names: usize, steps: usize, tranches: usize, recovery: u64, number: u8) -> Pool
+    ensures { λ r. ⌜ r ≡ poolFigures names steps tranches recovery number ⌝ }
+{
+    Pool {
+        names,
+        steps,
+        tranches,
+        recovery,
+        number,
+    }
+}
+
+// Adds an entry for which there is room.
+pub fn add(entry: Entry, layout: Layout, numbers: &mut [u64]) -> Layout
+    requires { ⌜ LayoutLimits layout (now numbers) ⌝ }
+    requires { ⌜ hasRoom entry (draftIn layout (now numbers)) ≡ true ⌝ }
+    ensures limits { λ r. ⌜ LayoutLimits r (now (numbers .exit)) ⌝ }
+    ensures adds { λ r. ⌜ draftIn r (now (numbers .exit)) ≡ added entry (draftIn layout (now (numbers .entry))) ⌝ }
+{
+    let mut pooled = layout.pooled;
+    let mut sheet = layout.sheet;
+    match entry {
+        Entry::Pool {
+            names,
+            steps,
+            tranches,
+            recovery,
+            number,
+        } => {
+            let pool = pool_figures(names, steps, tranches, recovery, number);
+            sheet.pool = pool;
+            pooled = true;
+            return Layout { pooled, sheet };
+        }
+        Entry::Attachment(point) => {
+            let attachments = append(sheet.attachments, numbers, point);
+            sheet.attachments = attachments;
+            return Layout { pooled, sheet };
+        }
+        Entry::Hazard(hazard) => {
+            let hazards = append(sheet.hazards, numbers, hazard);
+            sheet.hazards = hazards;
+            return Layout { pooled, sheet };
+        }
+        Entry::Step { discount, accrual } => {
+            let discounts = append(sheet.discounts, numbers, discount);
+            let accruals = append(sheet.accruals, numbers, accrual);
+            sheet.discounts = discounts;
+            sheet.accruals = accruals;
+            return Layout { pooled, sheet };
+        }
+        Entry::Coupon(coupon) => {
+            let coupons = append(sheet.coupons, numbers, coupon);
+            sheet.coupons = coupons;
+            return Layout { pooled, sheet };
+        }
+    }
+}

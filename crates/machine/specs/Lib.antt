@@ -1,0 +1,4 @@
+pub mod Machine
+pub mod Rooms
+pub mod Transitions
+pub mod OrderCalls

@@ -1,0 +1,25 @@
+-- `tables::outstandings_due` meets its contract.
+use borrow.Author.Needs.{needs}
+use mathlib.Core.Path.{sym, _∙_}
+use Rattle.tables.proofs.Due.{cond-due, cond-undue}
+use Rattle.tables.proofs.outstandings_due.Statement.{statement}
+use Rattle.tables.proofs.outstandings_due.Tie as tie
+
+premium-due-requires : tie.Need-premium-due-requires
+premium-due-requires c κs = search needs
+
+outstandings-requires : tie.Need-outstandings-requires
+outstandings-requires c κs = search needs
+
+same-length : tie.Need-same-length
+same-length c = search needs
+
+returns : tie.Need-returns
+returns c = c .before .before .outstandings .ensures ∙ sym (cond-due _ _ _ (sym (c .before .before .before .before .before .premium-due .ensures) ∙ c .before .before .before .before .if1 .taken))
+
+returns-2 : tie.Need-returns-2
+returns-2 c = sym (cond-undue _ _ _ (sym (c .before .premium-due .ensures) ∙ c .if1 .left))
+
+pub outstandings-due-spec : {M : Type 1} → statement M
+outstandings-due-spec =
+    tie.close (tie.spec premium-due-requires outstandings-requires same-length returns returns-2)

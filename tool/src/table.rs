@@ -1,0 +1,381 @@
+//! A deck and its listing as a table for people.
+//!
+//! Every figure comes from the listing; the deck only tells what was asked:
+//! which tranche, count and step, and between which attachment points a
+//! tranche lies. The position is that of the last accepted open or back.
+//!
+//! Decimals are exact, but for the net value in basis points of its tranche:
+//! a quotient, rounded to the nearest thousandth, a half away from zero.
+
+use crate::text::Mistake;
+use lavroudem_model::commands::{
+    decode, Decoded, BACK, CUT, DELTA, FORWARD, ISSUE, OPEN, POOL, VALUE, WITHDRAW,
+};
+use lavroudem_model::refusal::Refusal;
+use lavroudem_model::sheet::B;
+
+const NOTE: &str = "\
+The legs are in per cent of the pool, the premium leg times years: the worth of a coupon of 1 a year.
+The net value, default leg less coupon times premium leg, is in basis points of the tranche (index: of
+the pool). The hedge ratio is the index on the whole pool that hedges the whole tranche against the
+next default. The step is where the walk stands; a forward line has its own, and the chance of the
+count there.
+
+";
+
+/// Heading and unit of each column.
+const HEADINGS: [[&str; COLUMNS]; 2] = [
+    [
+        "call",
+        "tranche",
+        "count",
+        "step",
+        "default leg",
+        "premium leg",
+        "net value",
+        "hedge ratio",
+        "chance",
+    ],
+    [
+        "",
+        "",
+        "",
+        "",
+        "% of pool",
+        "% of pool x years",
+        "bp of tranche",
+        "",
+        "%",
+    ],
+];
+
+const COLUMNS: usize = 9;
+
+/// These columns say what was asked; the others hold figures.
+const ASKED: usize = 4;
+
+/// The first columns hold words, which stand at the left.
+const WORDS: usize = 2;
+
+/// Units of a billionth of the pool have these decimals in per cent.
+const PERCENT_PLACES: usize = 7;
+
+/// Decimals of a hedge ratio, which is told in millionths.
+const RATIO_PLACES: usize = 6;
+
+/// Decimals of basis points, as those of a coupon.
+const BASIS_POINT_PLACES: usize = 3;
+
+type Asked = [String; ASKED];
+type Figures = [String; COLUMNS - ASKED];
+
+struct Row {
+    asked: Asked,
+    /// The figures, or the refusal in words.
+    answer: Result<Figures, String>,
+}
+
+/// The table of a deck by the listing that it printed. A row for each value,
+/// delta and forward line, and for each refusal. The mistake is one of the
+/// listing: it is not that of the deck.
+pub fn table(deck: &[u8], listing: &str) -> Result<String, Mistake> {
+    if deck.is_empty() && listing.is_empty() {
+        return Ok(String::new());
+    }
+    let mut run = Run::new(deck);
+    let mut rows = Vec::new();
+    let mut line = 0;
+    for text in listing.lines() {
+        line += 1;
+        let row = run.row(text).map_err(|reason| Mistake { line, reason })?;
+        rows.extend(row);
+    }
+    if run.next_call().is_some() || !run.deck.is_empty() {
+        line += 1;
+        let reason = "the listing ends before its deck".to_string();
+        return Err(Mistake { line, reason });
+    }
+    Ok(NOTE.to_string() + &aligned(&rows))
+}
+
+/// What deck and listing have told up to a line.
+struct Run<'a> {
+    /// The commands to come.
+    deck: &'a [u8],
+    /// m and r of the pool; 0 without one.
+    steps: u64,
+    tranches: u64,
+    attachments: Vec<u64>,
+    position: Option<i128>,
+}
+
+impl Run<'_> {
+    fn new(deck: &[u8]) -> Run<'_> {
+        Run {
+            deck,
+            steps: 0,
+            tranches: 0,
+            attachments: Vec::new(),
+            position: None,
+        }
+    }
+
+    /// The row of the next line, if it has one.
+    fn row(&mut self, line: &str) -> Result<Option<Row>, String> {
+        let mut fields = line.split(' ');
+        let word = fields.next().unwrap_or_default();
+        let numbers: Result<Vec<i128>, _> = fields.map(str::parse).collect();
+        let numbers = numbers.map_err(|_| format!("`{line}` is no line of a listing"))?;
+        if word == "deck" {
+            return self.deck_row(&numbers).map(Some);
+        }
+        let call = self.next_call().filter(|call| call.command.word == word);
+        let call = call.ok_or_else(|| format!("`{line}` does not belong to the deck's call"))?;
+        match numbers[..] {
+            [0, ref figures @ ..] => self.accepted(&call, figures),
+            [number] => Ok(Some(Row {
+                asked: self.asked(&call),
+                answer: Err(in_words(refusal(number)?)),
+            })),
+            _ => Err(format!("`{line}` is no line of a listing")),
+        }
+    }
+
+    /// The last row: the deck is read no further.
+    fn deck_row(&mut self, numbers: &[i128]) -> Result<Row, String> {
+        let &[number, offset] = numbers else {
+            return Err("`deck` comes with a refusal and an offset".to_string());
+        };
+        self.deck = &[];
+        let words = in_words(refusal(number)?);
+        Ok(Row {
+            asked: [cell("deck"), cell(""), cell(""), cell("")],
+            answer: Err(format!("{words}, at byte {offset}")),
+        })
+    }
+
+    /// The next command that prints a line. Those before it add to the sheet.
+    fn next_call(&mut self) -> Option<Decoded> {
+        while !self.deck.is_empty() {
+            let read = decode(self.deck).ok()?;
+            self.deck = &self.deck[read.length..];
+            match (read.command.byte, read.operands()) {
+                (POOL, &[_, steps, tranches, _, _]) => {
+                    self.steps = steps;
+                    self.tranches = tranches;
+                }
+                (CUT, &[point]) => self.attachments.push(point),
+                _ if read.command.is_entry() => {}
+                _ => return Some(read),
+            }
+        }
+        None
+    }
+
+    /// Only a line with figures to show has a row; the others may move the
+    /// walk.
+    fn accepted(&mut self, call: &Decoded, figures: &[i128]) -> Result<Option<Row>, String> {
+        match (call.command.byte, figures) {
+            (ISSUE | WITHDRAW, []) => return Ok(None),
+            (OPEN, []) => {
+                self.position = Some(i128::from(self.steps));
+                return Ok(None);
+            }
+            (BACK, &[position]) => {
+                self.position = Some(position);
+                return Ok(None);
+            }
+            _ => {}
+        }
+        Ok(Some(Row {
+            asked: self.asked(call),
+            answer: Ok(self.figures(call, figures)?),
+        }))
+    }
+
+    fn figures(&self, call: &Decoded, figures: &[i128]) -> Result<Figures, String> {
+        let empty = || cell("");
+        match (call.command.byte, figures) {
+            (VALUE, &[default, premium, net]) => {
+                let width = self.width(call.operands()[0])?;
+                let points = decimal(nearest(net, width), BASIS_POINT_PLACES);
+                Ok([percent(default), percent(premium), points, empty(), empty()])
+            }
+            (DELTA, &[ratio]) => {
+                let ratio = decimal(ratio, RATIO_PLACES);
+                Ok([empty(), empty(), empty(), ratio, empty()])
+            }
+            (FORWARD, &[chance]) => {
+                let chance = percent(chance);
+                Ok([empty(), empty(), empty(), empty(), chance])
+            }
+            _ => {
+                let word = call.command.word;
+                Err(format!("these are not the figures of `{word}`"))
+            }
+        }
+    }
+
+    fn asked(&self, call: &Decoded) -> Asked {
+        let position = self.position.map_or(cell("-"), |p| p.to_string());
+        let word = call.command.word.to_string();
+        match (call.command.byte, call.operands()) {
+            (VALUE | DELTA, &[tranche, count]) => {
+                [word, self.tranche(tranche), count.to_string(), position]
+            }
+            (FORWARD, &[step, count]) => [word, cell(""), count.to_string(), step.to_string()],
+            (_, &[operand]) => [format!("{word} {operand}"), cell(""), cell(""), position],
+            _ => [word, cell(""), cell(""), position],
+        }
+    }
+
+    /// The lower and the upper attachment point, if the deck has them.
+    fn points(&self, tranche: u64) -> Option<(u64, u64)> {
+        let lower = usize::try_from(tranche).ok()?;
+        match self.attachments.get(lower..lower + 2) {
+            Some(&[lower, upper]) if tranche < self.tranches => Some((lower, upper)),
+            _ => None,
+        }
+    }
+
+    fn is_index(&self, tranche: u64) -> bool {
+        self.tranches > 0 && tranche == self.tranches
+    }
+
+    fn tranche(&self, tranche: u64) -> String {
+        match self.points(tranche) {
+            _ if self.is_index(tranche) => cell("index"),
+            Some((lower, upper)) => format!("{}-{} %", short_percent(lower), short_percent(upper)),
+            None => format!("no. {tranche}"),
+        }
+    }
+
+    /// What the net value is told in basis points of.
+    fn width(&self, tranche: u64) -> Result<i128, String> {
+        match self.points(tranche) {
+            _ if self.is_index(tranche) => Ok(B as i128),
+            Some((lower, upper)) if lower < upper => Ok(i128::from(upper - lower)),
+            _ => Err(format!("a value, but the deck has no tranche {tranche}")),
+        }
+    }
+}
+
+fn cell(text: &str) -> String {
+    text.to_string()
+}
+
+// ---- refusals
+
+fn refusal(number: i128) -> Result<Refusal, String> {
+    let known = Refusal::ALL
+        .into_iter()
+        .find(|refusal| i128::from(refusal.number()) == number);
+    known.ok_or_else(|| format!("no refusal has the number {number}"))
+}
+
+fn in_words(refusal: Refusal) -> String {
+    let (number, word) = (refusal.number(), refusal.word());
+    format!("refused {number}: {word} ({})", explanation(refusal))
+}
+
+/// What is wrong, from the side of one who wrote the deck.
+fn explanation(refusal: Refusal) -> &'static str {
+    match refusal {
+        Refusal::Pool => "names 1 to 125, steps 1 to 3650, tranches 1 to 8",
+        Refusal::Length => "too few or too many cuts, hazards, steps or coupons for the pool",
+        Refusal::Recovery => "the recovery is above 1000000000",
+        Refusal::Attachments => "the cuts do not rise, or one is above 1000000000",
+        Refusal::Hazard => "a hazard is above 1000000000",
+        Refusal::Discount => "a discount is 0 or above 1000000000",
+        Refusal::Accrual => "an accrual or their sum is too high, or the last is 0",
+        Refusal::Coupon => "a coupon is above 10000000",
+        Refusal::Withdrawn => "the sheet number was withdrawn, for good",
+        Refusal::Unissued => "the sheet number was never issued",
+        Refusal::NoWalk => "no walk is open for this sheet",
+        Refusal::OverCeiling => "a row has an entry that no walk can have left",
+        Refusal::OutOfSteps => "more steps than there are",
+        Refusal::OffTree => "no such tranche or count; a delta needs a name left to default",
+        Refusal::FlatHedge => "the next default does not move the index",
+        Refusal::OffScale => "the ratio would be a million or more",
+        Refusal::Live => "the sheet number is in use already",
+        Refusal::Unknown => "no command has this byte; the deck is read no further",
+        Refusal::CutShort => "the deck ends within a command",
+        Refusal::TooMany => "a second pool, a list too long, or a deck above 65536 bytes",
+    }
+}
+
+// ---- numbers as text
+
+/// So many units of a billionth, in per cent of the whole.
+fn percent(units: i128) -> String {
+    decimal(units, PERCENT_PLACES)
+}
+
+/// The same without zeros at its end.
+fn short_percent(units: u64) -> String {
+    let full = percent(i128::from(units));
+    full.trim_end_matches('0').trim_end_matches('.').to_string()
+}
+
+/// A number of the smallest decimal, with so many decimals.
+pub fn decimal(number: i128, places: usize) -> String {
+    let sign = if number < 0 { "-" } else { "" };
+    let one = 10_u128.pow(places as u32);
+    let (whole, part) = (number.unsigned_abs() / one, number.unsigned_abs() % one);
+    format!("{sign}{whole}.{part:0places$}")
+}
+
+/// The whole number nearest to a quotient by a positive divisor, a half away
+/// from zero.
+pub fn nearest(number: i128, divisor: i128) -> i128 {
+    let size = (2 * number.abs() + divisor) / (2 * divisor);
+    size * number.signum()
+}
+
+// ---- layout
+
+fn aligned(rows: &[Row]) -> String {
+    let widths = widths(rows);
+    let line = |cells: &[&str]| -> String {
+        let places = cells.iter().zip(&widths).enumerate();
+        let padded = places.map(|(column, (text, &width))| match column {
+            0..WORDS => format!("{text:<width$}  "),
+            _ => format!("{text:>width$}  "),
+        });
+        padded.collect()
+    };
+    let mut lines: Vec<String> = HEADINGS.iter().map(|heading| line(heading)).collect();
+    for row in rows {
+        lines.push(match &row.answer {
+            Ok(figures) => line(&row.cells(figures)),
+            Err(refused) => line(&row.cells(&[])) + refused,
+        });
+    }
+    let text = lines.iter().map(|line| line.trim_end().to_string() + "\n");
+    text.collect()
+}
+
+impl Row {
+    fn cells<'a>(&'a self, figures: &'a [String]) -> Vec<&'a str> {
+        self.asked
+            .iter()
+            .chain(figures)
+            .map(|text| &text[..])
+            .collect()
+    }
+}
+
+/// The longest text of each column. A refusal lies across the columns.
+fn widths(rows: &[Row]) -> [usize; COLUMNS] {
+    let mut widths = [0; COLUMNS];
+    let headings = HEADINGS.iter().map(|heading| heading.to_vec());
+    let rows = rows
+        .iter()
+        .map(|row| row.cells(row.answer.as_ref().map_or(&[], |f| &f[..])));
+    for cells in headings.chain(rows) {
+        for (width, text) in widths.iter_mut().zip(cells) {
+            *width = text.len().max(*width);
+        }
+    }
+    widths
+}

@@ -1,0 +1,135 @@
+//! The examples: each text gives its stored listing, by the model and by the
+//! engine, and its stored table; the five-year sheet is that of its formula.
+
+use lavroudem_model::deck::listing;
+use lavroudem_tool::table::table;
+use lavroudem_tool::text::{assemble, disassemble};
+use std::fmt::Write;
+use std::fs;
+use std::path::{Path, PathBuf};
+
+const NAMES: [&str; 3] = ["worked", "five-year", "refusals"];
+
+fn root() -> PathBuf {
+    Path::new(env!("CARGO_MANIFEST_DIR")).join("..")
+}
+
+fn stored(name: &str, ending: &str) -> String {
+    let file = root().join(format!("examples/{name}.{ending}"));
+    fs::read_to_string(&file).unwrap_or_else(|fault| panic!("{}: {fault}", file.display()))
+}
+
+fn deck(name: &str) -> Vec<u8> {
+    assemble(&stored(name, "txt")).unwrap_or_else(|mistake| panic!("{name}: {mistake}"))
+}
+
+/// A text without a listing would be an example that nothing checks.
+#[test]
+fn all_examples_are_tried() {
+    let folder = fs::read_dir(root().join("examples")).unwrap();
+    let files = folder.map(|entry| entry.unwrap().file_name().into_string().unwrap());
+    let texts = files.filter(|file| file.ends_with(".txt"));
+    assert_eq!(texts.count(), NAMES.len());
+}
+
+#[test]
+fn listings_are_the_models() {
+    for name in NAMES {
+        let printed = String::from_utf8(listing(&deck(name))).unwrap();
+        assert_eq!(printed, stored(name, "listing"), "{name}");
+    }
+}
+
+#[cfg(feature = "engine")]
+#[test]
+fn listings_are_the_engines() {
+    use lavroudem_model::{deck::MAX_DECK, engine};
+    let mut out = vec![0; engine::deck_room(MAX_DECK)];
+    for name in NAMES {
+        let printed = engine::run_deck(&deck(name), &mut out).expect("no room");
+        let printed = String::from_utf8(printed.to_vec()).unwrap();
+        assert_eq!(printed, stored(name, "listing"), "{name}");
+    }
+}
+
+#[test]
+fn tables_are_the_stored_ones() {
+    for name in NAMES {
+        let table = table(&deck(name), &stored(name, "listing")).unwrap();
+        assert_eq!(table, stored(name, "table"), "{name}");
+    }
+}
+
+/// The worked text is the deck that the engine's own program is tried with.
+#[test]
+fn worked_deck_is_the_stored_one() {
+    let stdin = fs::read(root().join("crates/listing/stdin")).unwrap();
+    assert_eq!(deck("worked"), stdin);
+}
+
+/// The comments tell each refusal that the deck meets, and no other.
+#[test]
+fn refusals_are_those_of_the_comments() {
+    let text = stored("refusals", "txt");
+    let told = text
+        .lines()
+        .filter_map(|line| line.split("# refused ").nth(1));
+    let told: Vec<&str> = told.map(|words| words.split(':').next().unwrap()).collect();
+    let listing = stored("refusals", "listing");
+    let numbers = listing.lines().map(|line| line.split(' ').nth(1).unwrap());
+    let met: Vec<&str> = numbers.filter(|&number| number != "0").collect();
+    assert_eq!(met, told);
+}
+
+/// The sheet of `five-year` by the formulas of `examples/README.md`.
+fn five_year_sheet() -> String {
+    const B: u64 = 1_000_000_000;
+    let mut text = "pool 125 1825 6 400000000 5\n".to_string();
+    for point in [0, 3, 6, 9, 12, 22, 100] {
+        writeln!(text, "cut {}", point * B / 100).unwrap();
+    }
+    for k in 0..125 {
+        writeln!(text, "hazard {}", 1_000_000 * (k + 1)).unwrap();
+    }
+    let discount = (2 * B * 36_500 + 36_503) / (2 * 36_503);
+    let dates: Vec<u64> = (1..=20).map(|quarter| 1_825 * quarter / 20).collect();
+    for day in 1..=1_825 {
+        let accrual = if dates.contains(&day) { B / 4 } else { 0 };
+        writeln!(text, "step {discount} {accrual}").unwrap();
+    }
+    for basis_points in [500, 500, 300, 100, 100, 25, 100] {
+        writeln!(text, "coupon {}", basis_points * 1_000).unwrap();
+    }
+    text
+}
+
+#[test]
+fn five_year_sheet_is_that_of_its_formula() {
+    let expected = assemble(&five_year_sheet()).unwrap();
+    let (sheet, calls) = {
+        let deck = deck("five-year");
+        (
+            deck[..expected.len()].to_vec(),
+            disassemble(&deck[expected.len()..]),
+        )
+    };
+    assert_eq!(disassemble(&sheet), disassemble(&expected));
+    assert!(calls.starts_with("issue 5\nopen\n"));
+}
+
+/// Five years of premium in all, and chances that grow with the count.
+#[test]
+fn five_year_sheet_is_plausible() {
+    let text = five_year_sheet();
+    let operands = |word: &str, place: usize| -> Vec<u64> {
+        let lines = text.lines().filter(|line| line.starts_with(word));
+        let operand = |line: &str| line.split(' ').nth(place).unwrap().parse().unwrap();
+        lines.map(operand).collect()
+    };
+    let accruals = operands("step", 2);
+    assert_eq!(accruals.iter().sum::<u64>(), 5_000_000_000);
+    assert_eq!(accruals.iter().filter(|&&accrual| accrual > 0).count(), 20);
+    assert_ne!(accruals[1_824], 0);
+    let hazards = operands("hazard", 1);
+    assert!(hazards.is_sorted_by(|p, q| p < q));
+}
