@@ -41,7 +41,8 @@ macro_rules! checks {
 
 checks! {
     phrases_stand_on_it;
-    worked_sheets_are_described;
+    worked_deck_is_described;
+    three_names_are_described;
     refusals_are_the_models;
     named_refusals_are_the_models;
     commands_are_the_models;
@@ -121,6 +122,14 @@ fn decisions_are_there(page: &str) -> Found {
     let decisions = fs::read_to_string(root().join("docs/DECISIONS.md")).unwrap();
     let parts: Vec<&str> = page.split("(decision ").skip(1).collect();
     same(parts.len(), 9, "decisions")?;
+    for section in [
+        "Open points",
+        "State: by value or lent",
+        "Deck and programs",
+    ] {
+        says(page, &format!("'{section}'"))?;
+        says(&decisions, &format!("\n## {section}\n"))?;
+    }
     for part in parts {
         let cited = part.split_once(", \"").zip(part.split_once("\")"));
         let ((number, _), (whole, _)) = cited.ok_or(format!("no title: {part}"))?;
@@ -151,9 +160,9 @@ const PHRASES: &[&str] = &[
     "| a(1) to a(m) |",
     "Tranche j, counted from 0, lies between point j and point j + 1. The first point may be above 0",
     "takes the count from k to k + 1. At the count n nobody is left, so p(n) = 0.",
-    "Cash at step i is worth v(i) billionths of it at step i - 1.",
+    "A unit at step i is worth v(i) / B units at step i - 1.",
     "just when its accrual is not 0. The last accrual is at least 1,",
-    "The default after which the count is k + 1 pays M(k + 1) - M(k),",
+    "pays M(k + 1) - M(k) at step i, where k is the count before it.",
     "prints 12 defaults on two lines, of which the second is for 13.",
     "one for each step s from i + 1 to m,",
     "has the chance p(k(s - 1)), a stay the chance B - p(k(s - 1)).",
@@ -166,11 +175,11 @@ const PHRASES: &[&str] = &[
     "at position m. Every entry of both rows is 0,",
     "Back by 0 is accepted and changes nothing.",
     "those of position i + 1.",
+    "how many premium dates are among these steps, m - h + 1 to m. The walk then stands at m - h.",
     "| D in the rows | its exact value | h |\n| A in the rows | its exact value | h + q/2 |\n",
     "| the sum of D over tranches 0 to r - 1, at each count | D of the tranche that spans them | (r + 1) × h |",
     "| the sum of A over tranches 0 to r - 1, at each count | A of the tranche that spans them | (r + 1) × (h + q/2) |",
     "refused where x is 0 (`15 flat hedge`), and where t is at least 1,000,000 × x (`16 off scale`)",
-    "may round to 1,000,000,000,000 and is answered",
     "the chances of 0 to n defaults,",
     "fills it for step i, 0 to m:",
     "from the count 0 that end at k. The distances of Q(0) to Q(n) from theirs, all added up, are at most n × i units.",
@@ -187,8 +196,7 @@ const PHRASES: &[&str] = &[
     "The byte 0A ends the line.",
     "checked for 18, 19 and 20, in this order,",
     "the offset of the command's byte, counted from 0,",
-    "so 18 and 19 are never met together.",
-    "a deck with 9 cuts for 2 tranches is read on,",
+    "so 18 and 19 are never met together (",
     "Only step 2 is a premium date, for a year. At position 2 the rows are 0.",
     "M(2) stops at the width, since L(2) is above the upper attachment point.",
     "so the distance may be 1.",
@@ -206,7 +214,7 @@ fn phrases_stand_on_it(page: &str) -> Found {
         format!("B is {b}."),
         format!("{coupon} is the whole nominal a year"),
         format!("are at most {ten_years}, ten years."),
-        format!("\n{bytes} bytes, one for each sheet number."),
+        format!("\n{bytes} bytes, one for each sheet number,"),
     ];
     let phrases = PHRASES
         .iter()

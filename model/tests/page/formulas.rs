@@ -2,7 +2,7 @@
 
 use super::worked::{figure, rows_at};
 use super::{between, blocks, cells, ensure, same, says, section, table, Found};
-use crate::arithmetic::{work_out, Ratio};
+use crate::arithmetic::{commas, work_out, Ratio};
 use crate::common::Random;
 use lavroudem_model::cash::{half, outstanding, pool_loss, premium_payment, tranche_loss, width};
 use lavroudem_model::sheet::{Sheet, B};
@@ -204,6 +204,11 @@ pub fn figure_formulas_are_the_models(page: &str) -> Found {
     let (net, _) = formula(page, "W")?;
     let (leap, _) = formula(page, "J")?;
     let (size, _) = formula(page, "size of the ratio")?;
+    let most = ratio_in_millionths(1_000_000_000_000_000 - 1, 1_000_000_000).unwrap();
+    says(
+        page,
+        &format!("may round to {} and is answered", commas(most)),
+    )?;
     everywhere(&|scene| {
         let (sheet, rows, tranche, count) = (scene.sheet, scene.rows, scene.tranche, scene.count);
         same(

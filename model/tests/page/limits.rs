@@ -1,12 +1,12 @@
 //! The page's limits, tried on both sides.
 
-use super::{cells, named, same, says, size, table, whole, Found};
+use super::{between, cells, named, same, says, size, table, whole, Found};
 use crate::arithmetic::{work_out, Ratio};
 use crate::common::plain_sheet;
-use lavroudem_model::commands::{COMMANDS, OPEN};
+use lavroudem_model::commands::{encode, COMMANDS, CUT, OPEN, POOL};
 use lavroudem_model::deck::{listing, MAX_DECK};
 use lavroudem_model::refusal::Refusal;
-use lavroudem_model::sheet::{check, Sheet};
+use lavroudem_model::sheet::{check, Sheet, MAX_TRANCHES};
 
 /// What a sheet is answered: 0 or the number of a refusal.
 fn answer(sheet: &Sheet) -> u8 {
@@ -110,5 +110,26 @@ pub fn limits_of_a_deck_are_the_models(page: &str) -> Found {
     same(whole(most)?, MAX_DECK as i128, bytes)?;
     let line = String::from_utf8(listing(&[OPEN].repeat(MAX_DECK + 1))).unwrap();
     let said = format!("prints `{}` and nothing else", line.trim_end());
-    says(page, &said)
+    says(page, &said)?;
+    short_decks_are_the_models(page)
+}
+
+/// No pool, and more cuts than its tranches have points.
+fn short_decks_are_the_models(page: &str) -> Found {
+    let cuts = MAX_TRANCHES + 1;
+    let pool = encode(POOL, &[3, 1, 2, 0, 0]);
+    let decks = [
+        (vec![], "a call that brings the sheet gets".into()),
+        (
+            [pool, encode(CUT, &[1]).repeat(cuts)].concat(),
+            format!("a deck with {cuts} cuts for 2 tranches is read on, and its calls get"),
+        ),
+    ];
+    for (deck, said) in decks {
+        let refusal = named(between(page, &format!("{said} `"), "`.")?)?;
+        let printed = listing(&[deck, vec![OPEN]].concat());
+        let right = format!("open {}\n", refusal.number());
+        same(printed, right.into_bytes(), &said)?;
+    }
+    Ok(())
 }

@@ -211,54 +211,43 @@ fn same_exact(sheet: &Sheet, leg: &str, (i, j, k): (usize, usize, usize), value:
     same(found, right, "an exact value")
 }
 
-/// What is said of the two sheets that are worked through, and of what the
-/// worked deck prints.
-pub fn worked_sheets_are_described(page: &str) -> Found {
-    let (first, second) = (worked::sheet(), three_names());
-    let of_first = |name, place| figure(&first, name, place).unwrap();
-    let [d, a, w] = ["D", "A", "W"].map(|name| of_first(name, (0, 0, 0)));
-    let chance = of_first("Q", (2, 0, 1));
-    let number = |figure: u64| commas(figure.into());
-    let list = |list: &[u64], between: &str| {
-        let numbers: Vec<String> = list.iter().map(|&figure| number(figure)).collect();
-        numbers.join(between)
-    };
-    let tranche = list(&first.attachments, " to ");
-    let recovery = number(first.recovery);
-    says(page, &format!("two steps, one tranche of {tranche} ("))?;
-    says(
-        page,
-        &format!("with a recovery of {recovery}. The first default"),
-    )?;
-    says(
-        page,
-        &format!("the second figure of `value 0 {d} {a} {w}`."),
-    )?;
-    says(
-        page,
-        &format!("So `forward 2 1` prints `forward 0 {chance}`."),
-    )?;
-    let tranche = list(&second.attachments, " to ");
-    let recovery = number(second.recovery);
-    says(
-        page,
-        &format!("one step, recovery {recovery}, one tranche of {tranche}."),
-    )?;
-    let hazards = list(&second.hazards, ", ");
-    let [discount, accrual] = [second.discounts[0], second.accruals[0]].map(number);
-    says(
-        page,
-        &format!("Hazards {hazards}; discount {discount}, accrual {accrual};"),
-    )?;
-    let coupons = list(&second.coupons, ", ");
-    says(page, &format!("coupons {coupons}."))?;
-    says(
-        page,
-        &format!(
-            "The sheet of three names, with the number {}.",
-            second.number
-        ),
-    )
+/// Numbers with commas.
+fn list(numbers: &[u64], between: &str) -> String {
+    let numbers: Vec<String> = numbers.iter().map(|&n| commas(n.into())).collect();
+    numbers.join(between)
+}
+
+/// What is said of the worked deck and of what it prints.
+pub fn worked_deck_is_described(page: &str) -> Found {
+    let sheet = worked::sheet();
+    let at_root = |name| figure(&sheet, name, (0, 0, 0)).unwrap();
+    let [d, a, w] = ["D", "A", "W"].map(at_root);
+    let chance = distribution(&sheet, 2)[1];
+    let tranche = list(&sheet.attachments, " to ");
+    let recovery = commas(sheet.recovery.into());
+    let said = [
+        format!("two steps, one tranche of {tranche} ("),
+        format!("with a recovery of {recovery}. The first default"),
+        format!("the second figure of `value 0 {d} {a} {w}`."),
+        format!("So `forward 2 1` prints `forward 0 {chance}`."),
+    ];
+    said.iter().try_for_each(|said| says(page, said))
+}
+
+/// What is said of the sheet of three names.
+pub fn three_names_are_described(page: &str) -> Found {
+    let sheet = three_names();
+    let tranche = list(&sheet.attachments, " to ");
+    let recovery = commas(sheet.recovery.into());
+    let [hazards, coupons] = [&sheet.hazards, &sheet.coupons].map(|rates| list(rates, ", "));
+    let [discount, accrual] = [&sheet.discounts, &sheet.accruals].map(|steps| list(steps, ""));
+    let number = sheet.number;
+    let said = [
+        format!("one step, recovery {recovery}, one tranche of {tranche}."),
+        format!("Hazards {hazards}; discount {discount}, accrual {accrual}; coupons {coupons}."),
+        format!("The sheet of three names, with the number {number}."),
+    ];
+    said.iter().try_for_each(|said| says(page, said))
 }
 
 /// Each line of the page's deck has the offset, the bytes and the command.
