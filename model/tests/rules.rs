@@ -7,7 +7,7 @@ mod common;
 mod page;
 
 use arithmetic::{commas, work_out, Ratio};
-use common::edges::base;
+use common::edges::walked;
 use common::plain_sheet;
 use lavroudem_model::cash::{outstanding, pool_loss};
 use lavroudem_model::commands::COMMANDS;
@@ -227,7 +227,8 @@ fn phrases_stand_on_it(page: &str) -> Found {
 }
 
 fn lengths_are_the_models(page: &str) -> Found {
-    let desk = base();
+    // Another shape than the base desk's, of which n is r + 1.
+    let desk = walked(plain_sheet(5, 3, 2));
     let sheet = &desk.sheet;
     let rows = table(page, "| Lent | Entries |")?;
     let lengths = [

@@ -10,6 +10,7 @@ use lavroudem_model::tree::{
     default_ceiling, default_leg, distribution, jump, net_value, place, premium_leg,
     ratio_in_millionths, Rows,
 };
+use lavroudem_model::worked;
 
 /// What the page's letters mean: at a tranche and a count of a sheet, with
 /// rows that stand at a position.
@@ -291,17 +292,28 @@ pub fn forward_formula_is_the_models(page: &str) -> Found {
     let rest = step.strip_prefix("in each step, for every k below n: ");
     let moved = rest.and_then(|rest| rest.strip_suffix(" moves from Q(k) to Q(k + 1)"));
     let moved = moved.ok_or("another step")?;
-    let sheet = Random::new(15).sheet(4, 6, 1);
+    let mut random = Random::new(15);
+    let sheets = [
+        worked::sheet(),
+        random.sheet(4, 6, 1),
+        random.sheet(3, 9, 1),
+    ];
+    sheets
+        .iter()
+        .try_for_each(|sheet| moves_are_the_models(sheet, moved))
+}
+
+fn moves_are_the_models(sheet: &Sheet, moved: &str) -> Found {
     let mut row = vec![0; sheet.names + 1];
     row[0] = B as i128;
     for done in 1..=sheet.steps {
         let old = row.clone();
         for k in 0..sheet.names {
-            let size = forward_move(&sheet, moved, k, &old)?;
+            let size = forward_move(sheet, moved, k, &old)?;
             row[k] -= size;
             row[k + 1] += size;
         }
-        let right = distribution(&sheet, done);
+        let right = distribution(sheet, done);
         let right = right.iter().map(|&q| q as i128).collect();
         same(row.clone(), right, "Q")?;
     }

@@ -59,9 +59,11 @@ pub fn limits_of_a_sheet_are_the_models(page: &str) -> Found {
     limits_of_lists(page)
 }
 
+/// A list's name, its length in a sheet, and a sheet with this entry in it.
+type List<'a> = (&'a str, fn(&Sheet) -> usize, &'a dyn Fn(u64) -> Sheet);
+
 fn limits_of_lists(page: &str) -> Found {
-    type Change<'a> = &'a dyn Fn(u64) -> Sheet;
-    let lists: [(&str, fn(&Sheet) -> usize, Change); 5] = [
+    let lists: [List; 5] = [
         ("attachments", |sheet| sheet.attachments.len(), &|value| {
             with(|sheet| sheet.attachments[if value < 2 { 0 } else { 2 }] = value)
         }),
