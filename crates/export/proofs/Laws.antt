@@ -10,8 +10,8 @@ use Rattle.deck.specs.declared.Ran.the-variants.{Printed, NoRoom}
 use Rattle.deck.specs.Listing.{room, printout, printingOn}
 use Rattle.deck.proofs.Printing.{printed-within, no-room-only}
 use Rattle.sheet.specs.Brought.{Brought}
-use Rattle.checks.specs.declared.Found.{Found}
-use Rattle.checks.specs.declared.Found.the-variants as Found
+use Rattle.refusals.specs.declared.Found.{Found}
+use Rattle.refusals.specs.declared.Found.the-variants as Found
 use Rattle.walk.specs.declared.Answer.{Answer}
 use Rattle.walk.specs.declared.Answer.the-variants.{Position, Worth, Ratio}
 use Rattle.walk.specs.declared.Reply.{Reply}

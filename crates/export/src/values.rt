@@ -10,7 +10,7 @@ pub(crate) fn number_in(answer: Answer) -> u8
     ensures { λ r. ⌜ r ≡ saidOf answer .number ⌝ }
 {
     match answer {
-        Answer::Refused(refusal) => checks::refusal_number(refusal),
+        Answer::Refused(refusal) => refusals::refusal_number(refusal),
         Answer::Done => 0,
         Answer::Position(_) => 0,
         Answer::Worth(_, _, _) => 0,

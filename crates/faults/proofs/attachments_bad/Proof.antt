@@ -1,11 +1,11 @@
--- `checks::checks::attachments_bad` meets its contract.
+-- `faults::checks::attachments_bad` meets its contract.
 use mathlib.Core.Path.{refl, sym, _∙_}
 use mathlib.Core.Bool.{true, false}
 use borrow.Author.Needs.{needs}
 use Rattle.cash.specs.Units.{B}
-use Rattle.checks.proofs.Lists.{attachments-told}
-use Rattle.checks.proofs.single.attachments_bad.Statement.{statement}
-use Rattle.checks.proofs.single.attachments_bad.Tie as tie
+use Rattle.faults.proofs.Lists.{attachments-told}
+use Rattle.faults.proofs.attachments_bad.Statement.{statement}
+use Rattle.faults.proofs.attachments_bad.Tie as tie
 
 any-fall-requires : tie.Need-any-fall-requires
 any-fall-requires c κs = search needs

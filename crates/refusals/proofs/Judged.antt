@@ -9,7 +9,7 @@ use borrow.Author.Tests.{ltb-false, leb-false, eqb-true, eqb-false, not-false, l
 use Rattle.rows.specs.Tables.{any}
 use Rattle.rows.proofs.Search.{or-left, or-right, neither, any-missed, any-none}
 use Rattle.lists.specs.Outside.{outside}
-use Rattle.checks.specs.Tests.{differs}
+use Rattle.refusals.specs.Tests.{differs}
 
 -- The proposition holds and the test is false, or it does not hold and the test is true.
 abbrev pub Judged : Bool → Type 0 → Type 0

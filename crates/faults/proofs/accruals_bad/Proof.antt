@@ -1,14 +1,14 @@
--- `checks::checks::accruals_bad` meets its contract.
+-- `faults::checks::accruals_bad` meets its contract.
 use Prim.Native.Nat.{_*_}
 use mathlib.Core.Path.{refl, sym, _∙_}
 use mathlib.Core.Bool.{true, false}
 use lib.ListN.{length, getD}
 use borrow.Author.Needs.{needs}
 use Rattle.cash.specs.Units.{B}
-use Rattle.checks.proofs.Judged.{any-fine, most-fine}
-use Rattle.checks.proofs.Lists.{over, not-over, accruals-told}
-use Rattle.checks.proofs.single.accruals_bad.Statement.{statement}
-use Rattle.checks.proofs.single.accruals_bad.Tie as tie
+use Rattle.refusals.proofs.Judged.{any-fine, most-fine}
+use Rattle.faults.proofs.Lists.{over, not-over, accruals-told}
+use Rattle.faults.proofs.accruals_bad.Statement.{statement}
+use Rattle.faults.proofs.accruals_bad.Tie as tie
 
 any-above-requires : tie.Need-any-above-requires
 any-above-requires c κs = search needs

@@ -8,8 +8,8 @@ use Rattle.cash.specs.Units.{B}
 use Rattle.sheet.specs.Terms.{Terms, sumOf}
 use Rattle.sheet.specs.Brought.{Brought}
 use Rattle.sheet.specs.Limits.{PoolInside, ListsFit, RecoveryInside, AttachmentsRise, HazardsInside, DiscountsInside, AccrualsInside, CouponsInside}
-use Rattle.checks.specs.Tests.{poolBad, listsBad, recoveryBad, attachmentsBad, hazardsBad, discountsBad, accrualsBad, couponsBad}
-use Rattle.checks.proofs.Judged.{or-fine, most-fine, rise-fine, outside-fine, differs-fine, some-fine, any-fine}
+use Rattle.refusals.specs.Tests.{poolBad, listsBad, recoveryBad, attachmentsBad, hazardsBad, discountsBad, accrualsBad, couponsBad}
+use Rattle.refusals.proofs.Judged.{or-fine, most-fine, rise-fine, outside-fine, differs-fine, some-fine, any-fine}
 
 module _ (x : Terms) where
   pub pool-fine : (poolBad x ≡ false) ↔ PoolInside x

@@ -1,6 +1,5 @@
-pub mod Judged
 pub mod FirstTest
-pub mod Meanings
+pub mod Judged
 pub mod Limits
-mod Lists
+pub mod Meanings
 mod Trials

@@ -6,9 +6,9 @@ use mathlib.Core.Logic.{_↔_}
 use Prim.Native.Nat.{ℕ}
 use native.Mathlib.Omega.{arith}
 use Rattle.sheet.specs.Brought.{Brought}
-use Rattle.checks.specs.declared.Refusal.{Refusal}
-use Rattle.checks.specs.declared.Found.the-variants.{Fine, Refused}
-use Rattle.checks.specs.Tests.{Test, first, sheetTests}
+use Rattle.refusals.specs.declared.Refusal.{Refusal}
+use Rattle.refusals.specs.declared.Found.the-variants.{Fine, Refused}
+use Rattle.refusals.specs.Tests.{Test, first, sheetTests}
 
 pub first-none : first [] ≡ Fine
 unfolding first

@@ -1,9 +1,9 @@
 -- `checks::refusal_number` meets its contract, refusal by refusal.
 use mathlib.Core.Path.{sym, ap}
-use Rattle.checks.specs.Refusals.{refusalNumber}
+use Rattle.refusals.specs.Refusals.{refusalNumber}
 use borrow.Author.Needs.{needs}
-use Rattle.checks.proofs.refusal_number.Statement.{statement}
-use Rattle.checks.proofs.refusal_number.Tie as tie
+use Rattle.refusals.proofs.refusal_number.Statement.{statement}
+use Rattle.refusals.proofs.refusal_number.Tie as tie
 
 enum-told : tie.Need-enum-told
 enum-told c = search needs

@@ -1,8 +1,8 @@
 -- Document 01's number of each refusal ('Refusals in order').
 use Prim.Native.Nat.{ℕ}
-use Rattle.checks.specs.declared.Refusal.{Refusal}
-use Rattle.checks.specs.declared.Refusal.the-variants.{Pool, Length, Recovery, Attachments, Hazard, Discount, Accrual, Coupon, Withdrawn}
-use Rattle.checks.specs.declared.Refusal.the-variants.{Unissued, NoWalk, OverCeiling, OutOfSteps, OffTree, FlatHedge, OffScale}
+use Rattle.refusals.specs.declared.Refusal.{Refusal}
+use Rattle.refusals.specs.declared.Refusal.the-variants.{Pool, Length, Recovery, Attachments, Hazard, Discount, Accrual, Coupon, Withdrawn}
+use Rattle.refusals.specs.declared.Refusal.the-variants.{Unissued, NoWalk, OverCeiling, OutOfSteps, OffTree, FlatHedge, OffScale}
 
 abbrev pub refusalNumber : Refusal → ℕ
 refusalNumber Pool = 1

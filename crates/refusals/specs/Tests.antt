@@ -9,10 +9,10 @@ use Rattle.sheet.specs.Terms.{Terms, sumOf}
 use Rattle.rows.specs.Tables.{any}
 use Rattle.lists.specs.Outside.{outside}
 use Rattle.sheet.specs.Brought.{Brought}
-use Rattle.checks.specs.declared.Refusal.{Refusal}
-use Rattle.checks.specs.declared.Refusal.the-variants.{Pool, Length, Recovery, Attachments, Hazard, Discount, Accrual, Coupon}
-use Rattle.checks.specs.declared.Found.{Found}
-use Rattle.checks.specs.declared.Found.the-variants.{Fine, Refused}
+use Rattle.refusals.specs.declared.Refusal.{Refusal}
+use Rattle.refusals.specs.declared.Refusal.the-variants.{Pool, Length, Recovery, Attachments, Hazard, Discount, Accrual, Coupon}
+use Rattle.refusals.specs.declared.Found.{Found}
+use Rattle.refusals.specs.declared.Found.the-variants.{Fine, Refused}
 
 abbrev pub differs : ℕ → ℕ → Bool
 differs a b = not (eqb a b)

@@ -5,11 +5,11 @@ use mathlib.Core.List.{List, [], _∷_}
 use mathlib.Core.Logic.{_↔_, Iff·trans, Iff·rfl}
 use Rattle.sheet.specs.Brought.{Brought}
 use Rattle.sheet.specs.Limits.{Limits}
-use Rattle.checks.specs.declared.Refusal.{Refusal}
-use Rattle.checks.specs.declared.Found.the-variants.{Fine}
-use Rattle.checks.specs.Tests.{Test, first, sheetTests}
-use Rattle.checks.proofs.FirstTest.{first-none, first-fine}
-use Rattle.checks.proofs.Meanings.{pool-fine, lengths-fine, recovery-fine, attachments-fine, hazards-fine, discounts-fine, accruals-fine, coupons-fine}
+use Rattle.refusals.specs.declared.Refusal.{Refusal}
+use Rattle.refusals.specs.declared.Found.the-variants.{Fine}
+use Rattle.refusals.specs.Tests.{Test, first, sheetTests}
+use Rattle.refusals.proofs.FirstTest.{first-none, first-fine}
+use Rattle.refusals.proofs.Meanings.{pool-fine, lengths-fine, recovery-fine, attachments-fine, hazards-fine, discounts-fine, accruals-fine, coupons-fine}
 
 -- One test more, before tests that find nothing just where L holds.
 pub tests-fine : {b : Bool} {K L : Type 0} (f : Refusal) (l : List Test) → (b ≡ false) ↔ K → (first l ≡ Fine) ↔ L → (first ((b, f) ∷ l) ≡ Fine) ↔ (K × L)

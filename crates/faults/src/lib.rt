@@ -1,16 +1,44 @@
-// The checks of a sheet's lists, each a yes or no.
+// The single checks of a sheet, each a yes or no.
 ghost use mathlib.Core.Path.{_≡_};
 ghost use mathlib.Core.List.{[]};
 ghost use Prim.Native.Nat.{_+_, _≤_};
 ghost use lib.ListN.{length};
 ghost use Rattle.sheet.specs.Terms.{bare, termsOf};
 ghost use Rattle.sheet.specs.Spans.{listIn, broughtIn};
-ghost use Rattle.checks.specs.Tests.{differs, listsBad, attachmentsBad, accrualsBad};
+ghost use Rattle.refusals.specs.Tests.{differs, poolBad, listsBad, attachmentsBad, accrualsBad};
 use cash::UNITS;
+use sheet::NAMES_MOST;
 use sheet::Pool;
+use sheet::STEPS_MOST;
 use sheet::Sheet;
 use sheet::Span;
+use sheet::TRANCHES_MOST;
 use sheet::part;
+
+// 1: whether the names, steps or tranches are outside their limits.
+pub fn pool_outside(pool: Pool) -> bool
+    ensures { λ r. ⌜ r ≡ poolBad (bare pool []) ⌝ }
+{
+    if pool.names < 1 {
+        return true;
+    }
+    if NAMES_MOST < pool.names {
+        return true;
+    }
+    if pool.steps < 1 {
+        return true;
+    }
+    if STEPS_MOST < pool.steps {
+        return true;
+    }
+    if pool.tranches < 1 {
+        return true;
+    }
+    if TRANCHES_MOST < pool.tranches {
+        return true;
+    }
+    false
+}
 
 // Whether the list of a span has another length.
 fn length_differs(span: Span, numbers: &[u64], due: usize) -> bool
@@ -21,7 +49,7 @@ fn length_differs(span: Span, numbers: &[u64], due: usize) -> bool
 }
 
 // 2: whether one of the sheet's own lists has another length. Few tranches, so that one more fits.
-pub(crate) fn lists_differ(sheet: Sheet, numbers: &[u64]) -> bool
+pub fn lists_differ(sheet: Sheet, numbers: &[u64]) -> bool
     requires { ⌜ sheet .pool .tranches ≤ 8 ⌝ }
     ensures { λ r. ⌜ r ≡ listsBad (broughtIn sheet (now (numbers .entry))) ⌝ }
 {
@@ -42,7 +70,7 @@ pub(crate) fn lists_differ(sheet: Sheet, numbers: &[u64]) -> bool
 }
 
 // 4: whether the attachment points do not rise, or one is above the pool.
-pub(crate) fn attachments_bad(pool: Pool, attachments: &[u64]) -> bool
+pub fn attachments_bad(pool: Pool, attachments: &[u64]) -> bool
     requires { ⌜ length (now attachments) ≡ pool .tranches + 1 ⌝ }
     ensures { λ r. ⌜ r ≡ attachmentsBad (bare pool (now (attachments .entry))) ⌝ }
 {
@@ -53,7 +81,7 @@ pub(crate) fn attachments_bad(pool: Pool, attachments: &[u64]) -> bool
 }
 
 // 7: whether an accrual or their sum is above its limit, or the last is 0.
-pub(crate) fn accruals_bad(pool: Pool, accruals: &[u64]) -> bool
+pub fn accruals_bad(pool: Pool, accruals: &[u64]) -> bool
     requires { ⌜ (1 ≤ pool .steps) × (pool .steps ≤ 3650) × (length (now accruals) ≡ pool .steps) ⌝ }
     ensures { λ r. ⌜ r ≡ accrualsBad (termsOf pool [] [] [] (now (accruals .entry))) ⌝ }
 {

@@ -6,10 +6,10 @@ use mathlib.Core.List.{List, [], _∷_}
 use Rattle.cash.specs.Units.{B}
 use Rattle.sheet.specs.Terms.{sumOf}
 use Rattle.rows.specs.Tables.{any}
-use Rattle.checks.specs.declared.Refusal.the-variants.{Pool, Length, Recovery, Attachments, Hazard, Discount, Accrual, Coupon}
-use Rattle.checks.specs.declared.Found.{Found}
-use Rattle.checks.specs.declared.Found.the-variants.{Fine, Refused}
-use Rattle.checks.specs.Tests.{poolBad, listsBad, recoveryBad, attachmentsBad, hazardsBad, discountsBad, accrualsBad, couponsBad, first, sheetTests}
+use Rattle.refusals.specs.declared.Refusal.the-variants.{Pool, Length, Recovery, Attachments, Hazard, Discount, Accrual, Coupon}
+use Rattle.refusals.specs.declared.Found.{Found}
+use Rattle.refusals.specs.declared.Found.the-variants.{Fine, Refused}
+use Rattle.refusals.specs.Tests.{poolBad, listsBad, recoveryBad, attachmentsBad, hazardsBad, discountsBad, accrualsBad, couponsBad, first, sheetTests}
 
 -- What checks 1 to 8 find of a sheet with these lists.
 found : ℕ → ℕ → List ℕ → List ℕ → List ℕ → List ℕ → List ℕ → Found

@@ -14,7 +14,7 @@ use Rattle.sheet.specs.Terms.{Terms, termsOf, sumOf}
 use Rattle.rows.specs.Tables.{any}
 use Rattle.sheet.specs.Brought.{Brought}
 use Rattle.lists.specs.Outside.{outside}
-use Rattle.checks.specs.Tests.{differs, listsBad, attachmentsBad, hazardsBad, discountsBad, accrualsBad, couponsBad}
+use Rattle.refusals.specs.Tests.{differs, listsBad, attachmentsBad, hazardsBad, discountsBad, accrualsBad, couponsBad}
 use Rattle.lists.proofs.Loops.{falls}
 
 same-reach : (f : ℕ → Bool) {n m : ℕ} → n ≡ m → any n f ≡ any m f

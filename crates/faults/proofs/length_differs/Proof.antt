@@ -4,9 +4,9 @@ use mathlib.Core.Path.{ap}
 use mathlib.Core.List.{List}
 use Prim.Native.Nat.{ℕ}
 use lib.ListN.{length}
-use Rattle.checks.specs.Tests.{differs}
-use Rattle.checks.proofs.single.length_differs.Statement.{statement}
-use Rattle.checks.proofs.single.length_differs.Tie as tie
+use Rattle.refusals.specs.Tests.{differs}
+use Rattle.faults.proofs.length_differs.Statement.{statement}
+use Rattle.faults.proofs.length_differs.Tie as tie
 
 part-requires : tie.Need-part-requires
 part-requires c κs = search needs

@@ -1,9 +1,9 @@
--- `checks::pool_outside` meets its contract.
+-- `faults::pool_outside` meets its contract.
 use native.Mathlib.Omega.{arith}
-use Rattle.checks.proofs.Judged.{kept, broken}
-use Rattle.checks.proofs.Meanings.{pool-fine}
-use Rattle.checks.proofs.pool_outside.Statement.{statement}
-use Rattle.checks.proofs.pool_outside.Tie as tie
+use Rattle.refusals.proofs.Judged.{kept, broken}
+use Rattle.refusals.proofs.Meanings.{pool-fine}
+use Rattle.faults.proofs.pool_outside.Statement.{statement}
+use Rattle.faults.proofs.pool_outside.Tie as tie
 
 returns : tie.Need-returns
 returns c = broken (pool-fine _) (λ p. omega arith)

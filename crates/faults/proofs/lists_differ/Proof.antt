@@ -2,9 +2,9 @@
 use borrow.Author.Needs.{needs}
 use mathlib.Core.Path.{refl, sym, _∙_}
 use mathlib.Core.Bool.{true, false}
-use Rattle.checks.proofs.Lists.{lists-told}
-use Rattle.checks.proofs.single.lists_differ.Statement.{statement}
-use Rattle.checks.proofs.single.lists_differ.Tie as tie
+use Rattle.faults.proofs.Lists.{lists-told}
+use Rattle.faults.proofs.lists_differ.Statement.{statement}
+use Rattle.faults.proofs.lists_differ.Tie as tie
 
 add-points : tie.Need-add-points
 add-points c = search needs
