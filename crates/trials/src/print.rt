@@ -1,9 +1,9 @@
 // Words and numbers to standard output.
 use cash::magnitude;
-use export::Hedged;
-use export::Moved;
-use export::Valued;
 use libc::STDOUT_FILENO;
+use returns::Hedged;
+use returns::Moved;
+use returns::Valued;
 
 pub fn text(words: &[u8]) {
     io::write_all(STDOUT_FILENO, words);

@@ -6,10 +6,10 @@ use Rattle.walk.specs.declared.Walk.{Walk}
 use Rattle.rows.specs.Rows.{Rows}
 use Rattle.walk.specs.Answers.{saidOf}
 use Rattle.walk.specs.Calls.{Outcome}
-use Rattle.export.specs.declared.Opened.{Opened}
-use Rattle.export.specs.declared.Moved.{Moved}
-use Rattle.export.specs.declared.Valued.{Valued}
-use Rattle.export.specs.declared.Hedged.{Hedged}
+use Rattle.returns.specs.declared.Opened.{Opened}
+use Rattle.returns.specs.declared.Moved.{Moved}
+use Rattle.returns.specs.declared.Valued.{Valued}
+use Rattle.returns.specs.declared.Hedged.{Hedged}
 
 -- Document 01's number and values, with the walk and the rows that are left.
 pub record Return : Type 0 where

@@ -1,10 +1,10 @@
 use mathlib.Core.Path.{sym, ap, _∙_}
 use mir.Syntax.{w64}
 use mir.ValLaws.{toZ-ofZ}
-use Rattle.export.specs.Figures.{ratioIn}
+use Rattle.returns.specs.Figures.{ratioIn}
 use borrow.Author.Needs.{needs}
-use Rattle.export.proofs.values.ratio_in.Statement.{statement}
-use Rattle.export.proofs.values.ratio_in.Tie as tie
+use Rattle.returns.proofs.ratio_in.Statement.{statement}
+use Rattle.returns.proofs.ratio_in.Tie as tie
 
 enum-told : tie.Need-enum-told
 enum-told c = search needs

@@ -1,8 +1,6 @@
 -- The values of an answer, each 0 where the answer has none of its kind.
 use Prim.Native.Nat.{ℕ}
 use lib.IntN.{ℤ, pos}
-use Rattle.deck.specs.declared.Ran.{Ran}
-use Rattle.deck.specs.declared.Ran.the-variants.{Printed, NoRoom}
 use Rattle.walk.specs.declared.Answer.{Answer}
 use Rattle.walk.specs.declared.Answer.the-variants.{Refused, Done, Position, Worth, Ratio}
 
@@ -40,8 +38,3 @@ ratioIn Done = pos 0
 ratioIn (Position i) = pos 0
 ratioIn (Worth d a w) = pos 0
 ratioIn (Ratio z) = z
-
--- The bytes that a deck printed. No listing has as many as the number for no room.
-abbrev pub bytesIn : Ran → ℕ
-bytesIn (Printed n) = n
-bytesIn NoRoom = 0xFFFF_FFFF_FFFF_FFFF

@@ -1,14 +1,8 @@
 -- What the calls answer has the values that their exported structs have fields for.
-use Prim.Native.Nat.{ℕ, _<_}
+use Prim.Native.Nat.{ℕ}
 use mathlib.Core.Path.{_≡_, refl, ap, _∙_}
 use mathlib.Core.List.{List, [], _∷_}
 use lib.IntN.{ℤ, pos}
-use lib.ListN.{length}
-use native.Mathlib.Omega.{arith}
-use Rattle.deck.specs.declared.Ran.{Ran}
-use Rattle.deck.specs.declared.Ran.the-variants.{Printed, NoRoom}
-use Rattle.deck.specs.Listing.{room, printout, printingOn}
-use Rattle.deck.proofs.Printing.{printed-within, no-room-only}
 use Rattle.sheet.specs.Brought.{Brought}
 use Rattle.refusals.specs.declared.Found.{Found}
 use Rattle.refusals.specs.declared.Found.the-variants as Found
@@ -19,12 +13,12 @@ use Rattle.walk.specs.declared.Walk.{Walk}
 use Rattle.rows.specs.Rows.{Rows, rowsOf}
 use Rattle.walk.specs.Answers.{saidOf}
 use Rattle.walk.specs.Calls.{Outcome, replied, forwardOutcome, orOutcome, openCall, backCall, valueCall, ratioCall, forwardCall, worth}
-use Rattle.export.specs.declared.Opened.{Opened}
-use Rattle.export.specs.declared.Moved.{Moved}
-use Rattle.export.specs.declared.Valued.{Valued}
-use Rattle.export.specs.declared.Hedged.{Hedged}
-use Rattle.export.specs.Figures.{positionIn, defaultIn, premiumIn, netIn, ratioIn, bytesIn}
-use Rattle.export.specs.Returns.{Return, returned, opened, moved, valued, hedged}
+use Rattle.returns.specs.declared.Opened.{Opened}
+use Rattle.returns.specs.declared.Moved.{Moved}
+use Rattle.returns.specs.declared.Valued.{Valued}
+use Rattle.returns.specs.declared.Hedged.{Hedged}
+use Rattle.returns.specs.Figures.{positionIn, defaultIn, premiumIn, netIn, ratioIn}
+use Rattle.returns.specs.Returns.{Return, returned, opened, moved, valued, hedged}
 
 -- ---- the values of each call, whatever is found
 
@@ -122,11 +116,3 @@ pub forward-returned : (x : Brought) (register row : List ℕ) (i : ℕ) (a : An
     → forwardOutcome a left ≡ forwardCall x register row i → n ≡ saidOf a .number
     → (n ≡ saidOf (forwardCall x register row i .answer) .number) × (left ≡ forwardCall x register row i .row)
 forward-returned x register row i a left n e h = (h ∙ (λ t. saidOf (e t .answer) .number), (λ t. e t .row))
-
--- ---- the number for no room
-
--- No listing has as many bytes.
-pub told-apart : (register deck out after : List ℕ) (a : Ran) → printout a after ≡ printingOn register deck out → length after < bytesIn NoRoom →
-    bytesIn a ≡ bytesIn NoRoom → length out < room (length deck)
-told-apart register deck out after (Printed r) e h q = absurd (omega (arith, printed-within register deck out after r e))
-told-apart register deck out after NoRoom e h q = no-room-only register deck out after e

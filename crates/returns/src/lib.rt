@@ -1,12 +1,45 @@
-// Enums taken apart into document 01's numbers and values.
+// What the exported calls return: document 01's numbers and values, an enum taken apart.
 ghost use mathlib.Core.Path.{_≡_};
 ghost use Rattle.walk.specs.Answers.{saidOf};
-ghost use Rattle.export.specs.Figures.{positionIn, defaultIn, premiumIn, netIn, ratioIn, bytesIn};
-use deck::Ran;
+ghost use Rattle.returns.specs.Figures.{positionIn, defaultIn, premiumIn, netIn, ratioIn};
 use walk::Answer;
+use walk::Walk;
+
+// What open answers.
+#[repr(C)]
+pub struct Opened {
+    pub number: u8,
+    pub walk: Walk,
+}
+
+// What back answers: the new position, 0 if refused.
+#[repr(C)]
+pub struct Moved {
+    pub number: u8,
+    pub position: usize,
+    pub walk: Walk,
+}
+
+// What value answers: D, A and W, each 0 if refused.
+#[repr(C)]
+pub struct Valued {
+    pub number: u8,
+    pub default: u64,
+    pub premium: u64,
+    pub net: i64,
+    pub walk: Walk,
+}
+
+// What hedge ratio answers: the ratio in millionths, 0 if refused.
+#[repr(C)]
+pub struct Hedged {
+    pub number: u8,
+    pub ratio: i64,
+    pub walk: Walk,
+}
 
 // 0, or the number of a refusal.
-pub(crate) fn number_in(answer: Answer) -> u8
+pub fn number_in(answer: Answer) -> u8
     ensures { λ r. ⌜ r ≡ saidOf answer .number ⌝ }
 {
     match answer {
@@ -19,7 +52,7 @@ pub(crate) fn number_in(answer: Answer) -> u8
 }
 
 // The position of an answer, or 0.
-pub(crate) fn position_in(answer: Answer) -> usize
+pub fn position_in(answer: Answer) -> usize
     ensures { λ r. ⌜ r ≡ positionIn answer ⌝ }
 {
     match answer {
@@ -32,7 +65,7 @@ pub(crate) fn position_in(answer: Answer) -> usize
 }
 
 // D of an answer, or 0.
-pub(crate) fn default_in(answer: Answer) -> u64
+pub fn default_in(answer: Answer) -> u64
     ensures { λ r. ⌜ r ≡ defaultIn answer ⌝ }
 {
     match answer {
@@ -45,7 +78,7 @@ pub(crate) fn default_in(answer: Answer) -> u64
 }
 
 // A of an answer, or 0.
-pub(crate) fn premium_in(answer: Answer) -> u64
+pub fn premium_in(answer: Answer) -> u64
     ensures { λ r. ⌜ r ≡ premiumIn answer ⌝ }
 {
     match answer {
@@ -58,7 +91,7 @@ pub(crate) fn premium_in(answer: Answer) -> u64
 }
 
 // W of an answer, or 0.
-pub(crate) fn net_in(answer: Answer) -> i64
+pub fn net_in(answer: Answer) -> i64
     ensures { λ r. ⌜ r ≡ netIn answer ⌝ }
 {
     match answer {
@@ -71,7 +104,7 @@ pub(crate) fn net_in(answer: Answer) -> i64
 }
 
 // The ratio of an answer, or 0.
-pub(crate) fn ratio_in(answer: Answer) -> i64
+pub fn ratio_in(answer: Answer) -> i64
     ensures { λ r. ⌜ r ≡ ratioIn answer ⌝ }
 {
     match answer {
@@ -80,15 +113,5 @@ pub(crate) fn ratio_in(answer: Answer) -> i64
         Answer::Position(_) => 0,
         Answer::Worth(_, _, _) => 0,
         Answer::Ratio(ratio) => ratio,
-    }
-}
-
-// The bytes that a deck printed, or the highest number where there was no room.
-pub(crate) fn bytes_in(ran: Ran) -> usize
-    ensures { λ r. ⌜ r ≡ bytesIn ran ⌝ }
-{
-    match ran {
-        Ran::Printed(bytes) => bytes,
-        Ran::NoRoom => 0xFFFF_FFFF_FFFF_FFFF,
     }
 }
