@@ -1,23 +1,21 @@
-// What a trial lends, made from its numbers, and the calls on it, in one line.
+// What a trial lends, made from its numbers.
 ghost use Prim.Native.Nat.{_≤_};
 use crate::at;
 use crate::at::Trial;
-use crate::calls;
 use crate::print;
 use sheet::Pool;
-use sheet::Sheet;
 use sheet::Span;
 
 // Where the lists of a sheet stand among its numbers, each with room for the longest that is tried.
-const HAZARDS: usize = 11;
+pub const HAZARDS: usize = 11;
 
-const DISCOUNTS: usize = 139;
+pub const DISCOUNTS: usize = 139;
 
-const ACCRUALS: usize = 3791;
+pub const ACCRUALS: usize = 3791;
 
-const COUPONS: usize = 7443;
+pub const COUPONS: usize = 7443;
 
-const NUMBERS: usize = 7459;
+pub const NUMBERS: usize = 7459;
 
 // Numbers from one place to another, each so much above the one before.
 fn fill(numbers: &mut [u64], from: usize, to: usize, first: u64, apart: u64) {
@@ -57,7 +55,7 @@ fn points(numbers: &mut [u64], trial: Trial) {
 }
 
 // The first so many numbers of a row, to be written.
-fn part_mut(list: &mut [u64], length: usize) -> &mut [u64] {
+pub fn part_mut(list: &mut [u64], length: usize) -> &mut [u64] {
     if list.len() <= length {
         return list;
     }
@@ -72,7 +70,7 @@ fn at_most(number: u64, most: usize) -> usize
 }
 
 // The length that a trial tells, or else what its pool asks for.
-fn length(trial: Trial, told: usize, right: usize, more: u64) -> usize {
+pub fn length(trial: Trial, told: usize, right: usize, more: u64) -> usize {
     let length = at::size(trial, told);
     if length == 0 {
         return at_most(at::read(trial, right), 3651) + at_most(more, 1);
@@ -88,7 +86,7 @@ pub fn register(seventh: u64) -> [u8; 257] {
 }
 
 // The first so many bytes.
-fn bytes(register: &[u8], length: usize) -> &[u8] {
+pub fn bytes(register: &[u8], length: usize) -> &[u8] {
     if register.len() <= length {
         return register;
     }
@@ -128,7 +126,7 @@ fn row(
     row
 }
 
-fn default_row(trial: Trial) -> [u64; 400] {
+pub fn default_row(trial: Trial) -> [u64; 400] {
     row(
         trial,
         at::OWN_DEFAULT,
@@ -141,7 +139,7 @@ fn default_row(trial: Trial) -> [u64; 400] {
     )
 }
 
-fn premium_row(trial: Trial) -> [u64; 400] {
+pub fn premium_row(trial: Trial) -> [u64; 400] {
     row(
         trial,
         at::OWN_PREMIUM,
@@ -155,7 +153,7 @@ fn premium_row(trial: Trial) -> [u64; 400] {
 }
 
 // The length that a trial tells for a row, or else what its pool asks for.
-fn row_length(trial: Trial, told: usize) -> usize {
+pub fn row_length(trial: Trial, told: usize) -> usize {
     let length = at::size(trial, told);
     if length == 0 {
         let names = at_most(trial[at::NAMES], 126);
@@ -165,31 +163,7 @@ fn row_length(trial: Trial, told: usize) -> usize {
     length
 }
 
-// The register and the rows.
-fn rows(trial: Trial, sheet: Sheet, numbers: &[u64]) {
-    let full = register(trial[at::BYTE]);
-    let bytes = bytes(&full, at::size(trial, at::REGISTER_LENT));
-    let mut defaults = default_row(trial);
-    let mut premiums = premium_row(trial);
-    let mut counts = [7; 130];
-    calls::walk(
-        trial,
-        sheet,
-        numbers,
-        bytes,
-        part_mut(&mut defaults, row_length(trial, at::DEFAULTS_LENT)),
-        part_mut(&mut premiums, row_length(trial, at::PREMIUMS_LENT)),
-    );
-    calls::forward(
-        trial,
-        sheet,
-        numbers,
-        bytes,
-        part_mut(&mut counts, length(trial, at::ROW_LENT, at::NAMES, 1)),
-    );
-}
-
-fn pool(trial: Trial) -> Pool {
+pub fn pool(trial: Trial) -> Pool {
     Pool {
         names: at::size(trial, at::NAMES),
         steps: at::size(trial, at::STEPS),
@@ -200,7 +174,7 @@ fn pool(trial: Trial) -> Pool {
 }
 
 // The list that stands at a place.
-fn span(trial: Trial, at: usize, told: usize, right: usize, more: u64) -> Span {
+pub fn span(trial: Trial, at: usize, told: usize, right: usize, more: u64) -> Span {
     Span {
         at,
         length: length(trial, told, right, more),
@@ -208,7 +182,7 @@ fn span(trial: Trial, at: usize, told: usize, right: usize, more: u64) -> Span {
 }
 
 // The numbers of the sheet's lists.
-fn lists(numbers: &mut [u64], trial: Trial) {
+pub fn lists(numbers: &mut [u64], trial: Trial) {
     points(numbers, trial);
     list(
         numbers,
@@ -247,19 +221,4 @@ fn lists(numbers: &mut [u64], trial: Trial) {
         at::THIRD_COUPON,
         at::OTHER_COUPONS,
     );
-}
-
-// A sheet and its numbers.
-pub fn sheet(trial: Trial) {
-    let mut numbers = [0; NUMBERS];
-    lists(&mut numbers, trial);
-    let sheet = Sheet {
-        pool: pool(trial),
-        attachments: span(trial, 0, at::ATTACHMENTS_LENT, at::TRANCHES, 1),
-        hazards: span(trial, HAZARDS, at::HAZARDS_LENT, at::NAMES, 0),
-        discounts: span(trial, DISCOUNTS, at::DISCOUNTS_LENT, at::STEPS, 0),
-        accruals: span(trial, ACCRUALS, at::ACCRUALS_LENT, at::STEPS, 0),
-        coupons: span(trial, COUPONS, at::COUPONS_LENT, at::TRANCHES, 1),
-    };
-    rows(trial, sheet, &numbers);
 }
