@@ -56,9 +56,7 @@ low-first-mul-result :
     (low-first-below t, low-first.Post)
     (low-first-at t)
     low-first.Post
-low-first-mul-result t c =
-    let s = c .before .before .before .before in
-    omega (arith, four _ _ (omega arith) (c .low-first .ensures .1))
+low-first-mul-result t c = omega (arith, four _ _ (omega arith) (c .low-first .ensures .1))
 
 low-first-add-result :
     (t : ℕ) →
