@@ -57,14 +57,17 @@ loop-holds c =
     (omega arith, (omega (arith, v .1 .0), (v .1 .1 .0, v .1 .1 .1)))
 
 module _ (c : tie.In-loop Inv-loop μ-loop Inv-search μ-search) where
+  abbrev points : tie.After-upper-of Inv-loop μ-loop Inv-search μ-search
+  points = c .before .before
+
   abbrev whose : tie.Start Inv-loop μ-loop Inv-search μ-search
-  whose = start (outer (c .before .before))
+  whose = start (outer points)
 
   abbrev x : Terms
   x = bare (whose .args .pool) (whose .args .attachments .now)
 
   abbrev j : ℕ
-  j = outer (c .before .before) .search .j
+  j = outer points .search .j
 
   abbrev k : ℕ
   k = c .before .loop .k
@@ -92,15 +95,13 @@ shared-slice-read-tranche-outstanding c = omega (arith, long (c .before))
 tranche-outstanding-requires : tie.Need-tranche-outstanding-requires Inv-loop μ-loop Inv-search μ-search
 tranche-outstanding-requires c κs =
     let i = c .before in
-    let u = i .before .before in
-    omega (arith, u .before .lower-of .ensures, u .upper-of .ensures, points-rise (x i) (whose i .pre .0 .0) (j i))
+    omega (arith, points i .before .lower-of .ensures, points i .upper-of .ensures, points-rise (x i) (whose i .pre .0 .0) (j i))
 
 -- what the tranche has left to lose
 left-is : (c : tie.After-tranche-outstanding Inv-loop μ-loop Inv-search μ-search) → c .tranche-outstanding .result ≡ defaultMost (x (turn c)) (j (turn c)) (k (turn c))
 left-is c =
     let i = turn c in
-    let u = i .before .before in
-    ceiling-read (x i) (j i) (k i) _ _ _ _ (omega arith) (u .before .lower-of .ensures) (u .upper-of .ensures) (whose i .pre .0 .1) (c .tranche-outstanding .ensures)
+    ceiling-read (x i) (j i) (k i) _ _ _ _ (omega arith) (points i .before .lower-of .ensures) (points i .upper-of .ensures) (whose i .pre .0 .1) (c .tranche-outstanding .ensures)
 
 mul-if1 : tie.Need-mul-if1 Inv-loop μ-loop Inv-search μ-search
 mul-if1 c = omega (arith, small (turn c))
@@ -125,8 +126,7 @@ loop-less c = omega arith
 
 loop-again : tie.Need-loop-again Inv-loop μ-loop Inv-search μ-search
 loop-again c =
-    let l = left-known (c .before) in
-    let i = turn l in
+    let i = turn (left-known (c .before)) in
     let v = i .before .loop .inv in (
       omega arith,
       (
@@ -134,7 +134,7 @@ loop-again c =
         (
           v .1 .1 .0,
           clean-more _ _ (j i) (k i) _ (v .1 .1 .1) (v .1 .0) (omega arith)
-              (under-both (x i) _ _ _ (j i) (k i) _ (v .1 .0) _ (left-is l) (c .before .before .if1 .left) (c .if2 .left)),
+              (under-both (x i) _ _ _ (j i) (k i) _ (v .1 .0) _ (left-is (left-known (c .before))) (c .before .before .if1 .left) (c .if2 .left)),
         ),
       ),
     )
@@ -148,8 +148,7 @@ search-less c = omega arith
 search-again : tie.Need-search-again Inv-loop μ-loop Inv-search μ-search
 search-again c =
     let v = c .before .loop .inv in
-    let o = outer (c .before .before) in
-    (omega arith, (omega (arith, v .1 .0, next-tranche (o .search .j) (suc (start o .args .pool .names))), (v .1 .1 .0, v .1 .1 .1)))
+    (omega arith, (omega (arith, v .1 .0, next-tranche (outer (c .before .before) .search .j) (suc (start (outer (c .before .before)) .args .pool .names))), (v .1 .1 .0, v .1 .1 .1)))
 
 returns : tie.Need-returns Inv-loop μ-loop Inv-search μ-search
 returns c =
@@ -161,9 +160,8 @@ returns c =
 
 returns-2 : tie.Need-returns-2 Inv-loop μ-loop Inv-search μ-search
 returns-2 c =
-    let l = c .before .before in
-    let i = turn l in
-    sym (over-found (suc (whose i .args .pool .tranches)) (suc (whose i .args .pool .names)) (overAt (x i) _ _ _) (j i) (k i) (omega arith) (omega arith) (over-default (x i) _ _ _ (j i) (k i) _ (i .before .loop .inv .1 .0) _ (left-is l) (c .if1 .taken)))
+    let i = turn (c .before .before) in
+    sym (over-found (suc (whose i .args .pool .tranches)) (suc (whose i .args .pool .names)) (overAt (x i) _ _ _) (j i) (k i) (omega arith) (omega arith) (over-default (x i) _ _ _ (j i) (k i) _ (i .before .loop .inv .1 .0) _ (left-is (c .before .before)) (c .if1 .taken)))
 
 returns-3 : tie.Need-returns-3 Inv-loop μ-loop Inv-search μ-search
 returns-3 c =
