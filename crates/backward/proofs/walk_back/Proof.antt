@@ -7,18 +7,21 @@ use Rattle.rows.proofs.Lent.{enough, front, front-size, zeros-front}
 use Rattle.backward.proofs.walk_back.Statement.{statement}
 use Rattle.backward.proofs.walk_back.Tie as tie
 
--- where the size is known, and the start
-abbrev start : tie.After-struct-known2 → tie.Start
-start p = p .before .before .before .before .before
+-- the places: the start, seen where the number of tranches is read; the size known, seen from the first part that is lent
+abbrev start : tie.After-struct-known → tie.Start
+start p = p .before .before .before .before
 
-fits : (p : tie.After-struct-known2) → let pool = start p .args .sheet .pool in (pool .tranches + 1) * (pool .names + 1) ≤ 1134
-fits p = let s = start p in enough (s .args .sheet .pool .tranches) (s .args .sheet .pool .names) (s .pre .limits .tranches .pool .tranches .1) (s .pre .limits .tranches .pool .names .1)
+abbrev sized : tie.After-paid → tie.After-struct-known2
+sized p = p .before .before .before
+
+fits : (p : tie.After-struct-known2) → let pool = start (p .before) .args .sheet .pool in (pool .tranches + 1) * (pool .names + 1) ≤ 1134
+fits p = let s = start (p .before) in enough (s .args .sheet .pool .tranches) (s .args .sheet .pool .names) (s .pre .limits .tranches .pool .tranches .1) (s .pre .limits .tranches .pool .names .1)
 
 add-size : tie.Need-add-size
-add-size c = omega (arith, c .before .before .before .before .pre .limits .tranches .pool .tranches)
+add-size c = omega (arith, start c .pre .limits .tranches .pool .tranches)
 
 add-size-2 : tie.Need-add-size-2
-add-size-2 c = omega (arith, start c .pre .limits .tranches .pool .names)
+add-size-2 c = omega (arith, start (c .before) .pre .limits .tranches .pool .names)
 
 mul-size : tie.Need-mul-size
 mul-size c = omega (arith, fits c)
@@ -27,26 +30,27 @@ array-borrow-prefix-paid : tie.Need-array-borrow-prefix-paid
 array-borrow-prefix-paid c = fits (c .before .before)
 
 slice-aggregate-walk-with-tables : tie.Need-slice-aggregate-walk-with-tables
-slice-aggregate-walk-with-tables c = front _ _ 1134 refl (fits (c .before .before .before))
+slice-aggregate-walk-with-tables c = front _ _ 1134 refl (fits (sized c))
 
 array-borrow-prefix-left : tie.Need-array-borrow-prefix-left
-array-borrow-prefix-left c = fits (c .before .before .before)
+array-borrow-prefix-left c = fits (sized c)
 
 slice-aggregate-walk-with-tables-2 : tie.Need-slice-aggregate-walk-with-tables-2
-slice-aggregate-walk-with-tables-2 c = front _ _ 1134 refl (fits (c .before .before .before .before))
+slice-aggregate-walk-with-tables-2 c = front _ _ 1134 refl (fits (sized (c .before)))
 
 array-share-prefix-none : tie.Need-array-share-prefix-none
-array-share-prefix-none c = fits (c .before .before .before .before)
+array-share-prefix-none c = fits (sized (c .before))
 
 slice-aggregate-walk-with-tables-3 : tie.Need-slice-aggregate-walk-with-tables-3
-slice-aggregate-walk-with-tables-3 c = front _ _ 1134 refl (fits (c .before .before .before .before .before))
+slice-aggregate-walk-with-tables-3 c = front _ _ 1134 refl (fits (sized (c .before .before)))
 
 walk-with-tables-requires : tie.Need-walk-with-tables-requires
 walk-with-tables-requires c κs =
-    let p = c .before .before .before .before .before in
-    let r = start p .args .sheet .pool .tranches in
-    let n = start p .args .sheet .pool .names in (
-      start p .pre,
+    let p = sized (c .before .before) in
+    let s = start (p .before) in
+    let r = s .args .sheet .pool .tranches in
+    let n = s .args .sheet .pool .names in (
+      s .pre,
       (
         front-size r n _ 1134 refl (fits p),
         (

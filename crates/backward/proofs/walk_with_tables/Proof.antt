@@ -20,7 +20,8 @@ Inv-loop sheet numbers defaults₀ premiums₀ position count paid left none haz
 abbrev μ-loop : tie.MeasureT-loop
 μ-loop sheet numbers defaults₀ premiums₀ position count paid left none hazards discounts accruals done₀ defaults premiums done = count - done
 
--- ---- places
+-- ---- places: the start and the first part, seen where the four parts are taken; those, seen where both tables are filled;
+-- a turn of the loop, seen where it rolls the first row; the row rolled, seen where the premiums accrue; those accrued, seen where they are rolled
 
 abbrev Parts : Type 0
 Parts = tie.After-part4 Inv-loop μ-loop
@@ -28,15 +29,27 @@ Parts = tie.After-part4 Inv-loop μ-loop
 abbrev start : Parts → tie.Start Inv-loop μ-loop
 start p = p .before .before .before .before .before .before .before .before .before .before .before
 
+abbrev with-attachments : Parts → tie.After-part Inv-loop μ-loop
+with-attachments p = p .before .before .before
+
+abbrev parts : tie.After-slice-known6 Inv-loop μ-loop → Parts
+parts f = f .before .before .before .before .before .before .before .before
+
 abbrev InLoop : Type 0
 InLoop = tie.In-loop Inv-loop μ-loop
 
-abbrev parts : InLoop → Parts
-parts c = c .before .before .before .before .before .before .before .before .before .before
+abbrev turn : tie.After-roll-all-arg2 Inv-loop μ-loop → InLoop
+turn r = r .before .before .before .before
+
+abbrev rolled : tie.After-accrue-arg2 Inv-loop μ-loop → tie.After-roll-all Inv-loop μ-loop
+rolled a = a .before .before .before .before
+
+abbrev accrued : tie.After-roll-all-arg3 Inv-loop μ-loop → tie.After-accrue Inv-loop μ-loop
+accrued r = r .before .before .before
 
 -- the step that the loop leads to
 abbrev to : InLoop → ℕ
-to c = start (parts c) .args .position - (c .before .loop .done + 1)
+to c = start (parts (c .before .before)) .args .position - (c .before .loop .done + 1)
 
 -- ---- needs
 
@@ -52,10 +65,10 @@ part-requires-3 c κs = search needs
 part-requires-4 : tie.Need-part-requires-4 Inv-loop μ-loop
 part-requires-4 c κs = search needs
 
-fits : (p : Parts) → TranchesWithin (bare (start p .args .sheet .pool) (p .before .before .before .part .result .now))
+fits : (p : Parts) → TranchesWithin (bare (start p .args .sheet .pool) (with-attachments p .part .result .now))
 fits p =
     let s = start p in
-    subst (λ (l : List ℕ). TranchesWithin (bare (s .args .sheet .pool) l)) (sym (p .before .before .before .part .ensures))
+    subst (λ (l : List ℕ). TranchesWithin (bare (s .args .sheet .pool) l)) (sym (with-attachments p .part .ensures))
     (tranches-bare (s .args .sheet .pool) _ _ _ _ (s .pre .0 .limits .tranches))
 
 payments-requires : tie.Need-payments-requires Inv-loop μ-loop
@@ -70,9 +83,9 @@ outstandings-due-requires c κs =
 
 loop-holds : tie.Need-loop-holds Inv-loop μ-loop
 loop-holds c =
-    let p = c .before .before .before .before .before .before .before .before in
+    let p = parts c in
     let s = start p in
-    steps-none (s .args .sheet .pool) _ _ _ _ _ _ _ _ (p .before .before .before .part .ensures) (p .before .before .part2 .ensures) (p .before .part3 .ensures) (p .part4 .ensures)
+    steps-none (s .args .sheet .pool) _ _ _ _ _ _ _ _ (with-attachments p .part .ensures) (p .before .before .part2 .ensures) (p .before .part3 .ensures) (p .part4 .ensures)
     _ _ _ _ _ _ _ _ (s .pre .0) (c .before .before .before .before .before .before .payments .ensures) (c .before .before .outstandings-due .ensures)
     (s .pre .1 .1 .0 .0) (s .pre .1 .1 .0 .1) (s .pre .1 .1 .1 .0) (s .pre .1 .1 .1 .1)
 
@@ -82,10 +95,10 @@ add-done c = omega (arith, c .before .loop .inv .ready .count-most)
 sub-i : tie.Need-sub-i Inv-loop μ-loop
 sub-i c = omega (arith, c .before .loop .inv .ready .count-most)
 
-discount-within : (c : InLoop) → to c < length (parts c .before .part3 .result .now)
+discount-within : (c : InLoop) → to c < length (parts (c .before .before) .before .part3 .result .now)
 discount-within c = discount-there (c .before .loop .inv) (to c) refl (c .loop-test .taken)
 
-accrual-within : (c : InLoop) → to c < length (parts c .part4 .result .now)
+accrual-within : (c : InLoop) → to c < length (parts (c .before .before) .part4 .result .now)
 accrual-within c = accrual-there (c .before .loop .inv) (to c) refl (c .loop-test .taken)
 
 mul-discount : tie.Need-mul-discount Inv-loop μ-loop
@@ -101,11 +114,11 @@ shared-slice-read-accrual : tie.Need-shared-slice-read-accrual Inv-loop μ-loop
 shared-slice-read-accrual c = accrual-within (c .before .before)
 
 roll-all-requires : tie.Need-roll-all-requires Inv-loop μ-loop
-roll-all-requires c κs = let i = c .before .before .before .before in roll-fits (i .before .loop .inv) (to i) refl (i .loop-test .taken)
+roll-all-requires c κs = let i = turn c in roll-fits (i .before .loop .inv) (to i) refl (i .loop-test .taken)
 
 accrue-requires : tie.Need-accrue-requires Inv-loop μ-loop
 accrue-requires c κs =
-    let i = c .before .before .before .before .before .before .before .before .before in
+    let i = turn (rolled c .before) in
     let g = i .before .loop .inv in (
       (accrual-low g (to i) refl (i .loop-test .taken), left-long g (to i) refl (i .loop-test .taken)),
       (left-low g (to i) refl (i .loop-test .taken), premium-low g (to i) refl (i .loop-test .taken)),
@@ -113,17 +126,18 @@ accrue-requires c κs =
 
 roll-all-requires-2 : tie.Need-roll-all-requires-2 Inv-loop μ-loop
 roll-all-requires-2 c κs =
-    let i = c .before .before .before .before .before .before .before .before .before .before .before .before .before in
-    accrued-fits (i .before .loop .inv) (to i) refl (i .loop-test .taken) _ (c .before .before .before .accrue .ensures)
+    let a = accrued c in
+    let i = turn (rolled (a .before) .before) in
+    accrued-fits (i .before .loop .inv) (to i) refl (i .loop-test .taken) _ (a .accrue .ensures)
 
 loop-less : tie.Need-loop-less Inv-loop μ-loop
 loop-less c = omega arith
 
 loop-again : tie.Need-loop-again Inv-loop μ-loop
 loop-again c =
-    let a = c .before .before .before .before .before .before in
-    let r = a .before .before .before .before .before in
-    let i = r .before .before .before .before .before in
+    let a = accrued (c .before .before .before) in
+    let r = rolled (a .before) in
+    let i = turn (r .before) in
     steps-more (i .before .loop .inv) (to i) refl (i .loop-test .taken) _ _ _ (r .roll-all .ensures) (a .accrue .ensures) (c .before .before .roll-all2 .ensures)
 
 same-length : tie.Need-same-length Inv-loop μ-loop
@@ -141,7 +155,7 @@ same-length-4 c = search needs
 returns : tie.Need-returns Inv-loop μ-loop
 returns c =
     let g = c .before .loop .inv in
-    let s = start (c .before .before .before .before .before .before .before .before .before .before) in
+    let s = start (parts (c .before .before)) in
     let e : c .before .loop .done ≡ s .args .count = omega (arith, g .most) in
     (defaults-end g e, premiums-end g e)
 

@@ -18,6 +18,10 @@ Inv-loop accruals position size sum₀ i₀ sum i =
 abbrev μ-loop : tie.MeasureT-loop
 μ-loop accruals position size sum₀ i₀ sum i = i
 
+-- the start, seen where an accrual is read
+abbrev start : tie.After-shared-slice-known Inv-loop μ-loop → tie.Start Inv-loop μ-loop
+start a = a .before .before .before
+
 loop-holds : tie.Need-loop-holds Inv-loop μ-loop
 loop-holds c = (search needs, (omega arith, sym (sum-drop-past _ (c .args .accruals .now) (le-refl _))))
 
@@ -31,12 +35,12 @@ shared-slice-read-sum : tie.Need-shared-slice-read-sum Inv-loop μ-loop
 shared-slice-read-sum c = search needs
 
 -- one accrual more
-more : (c : tie.After-shared-slice-known Inv-loop μ-loop) → c .before .before .loop .sum + getD (c .before .before .before .args .accruals .now) (c .before .before .loop .i - 1) 0 ≡ sumOf (drop (c .before .before .loop .i - 1) (c .before .before .before .args .accruals .now))
+more : (c : tie.After-shared-slice-known Inv-loop μ-loop) → c .before .before .loop .sum + getD (start c .args .accruals .now) (c .before .before .loop .i - 1) 0 ≡ sumOf (drop (c .before .before .loop .i - 1) (start c .args .accruals .now))
 more c = sum-drop-before (c .before .before .loop .i) _ _ (omega arith) (c .before .before .loop .inv .0) (c .before .before .loop .inv .1 .1)
 
 add-sum : tie.Need-add-sum Inv-loop μ-loop
 unfolding B
-add-sum c = omega (arith, more c, sum-drop-most (c .before .before .loop .i - 1) (c .before .before .before .args .accruals .now), c .before .before .before .pre)
+add-sum c = omega (arith, more c, sum-drop-most (c .before .before .loop .i - 1) (start c .args .accruals .now), start c .pre)
 
 loop-less : tie.Need-loop-less Inv-loop μ-loop
 loop-less c = search needs

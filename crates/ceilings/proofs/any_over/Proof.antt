@@ -28,53 +28,66 @@ Inv-search pool attachments losses most defaults premiums names tranches found�
 abbrev μ-search : tie.MeasureT-search
 μ-search pool attachments losses most defaults premiums names tranches found₀ place₀ j₀ found place j = suc (pool .tranches) - j
 
+-- the places: the start, seen from the outer loop; the outer loop, seen where both points are read; the turn of the inner one,
+-- seen where it is known what is left to lose; and that, seen where the premium is read
+abbrev start : tie.At-search Inv-loop μ-loop Inv-search μ-search → tie.Start Inv-loop μ-loop Inv-search μ-search
+start o = o .before .before .before .before .before
+
+abbrev outer : tie.After-upper-of Inv-loop μ-loop Inv-search μ-search → tie.At-search Inv-loop μ-loop Inv-search μ-search
+outer u = u .before .before .before
+
+abbrev turn : tie.After-tranche-outstanding Inv-loop μ-loop Inv-search μ-search → tie.In-loop Inv-loop μ-loop Inv-search μ-search
+turn l = l .before .before
+
+abbrev left-known : tie.After-shared-slice-known7 Inv-loop μ-loop Inv-search μ-search → tie.After-tranche-outstanding Inv-loop μ-loop Inv-search μ-search
+left-known p = p .before .before .before
+
 search-holds : tie.Need-search-holds Inv-loop μ-loop Inv-search μ-search
 search-holds c = (omega arith, (omega arith, (refl, clean-none _ _)))
 
 lower-of-requires : tie.Need-lower-of-requires Inv-loop μ-loop Inv-search μ-search
-lower-of-requires c κs =
-    let s = c .before .before .before .before .before .before in
-    (s .pre .0 .0, omega arith)
+lower-of-requires c κs = (start (c .before) .pre .0 .0, omega arith)
 
 upper-of-requires : tie.Need-upper-of-requires Inv-loop μ-loop Inv-search μ-search
-upper-of-requires c κs =
-    let s = c .before .before .before .before .before .before .before in
-    (s .pre .0 .0, omega arith)
+upper-of-requires c κs = (start (c .before .before) .pre .0 .0, omega arith)
 
 loop-holds : tie.Need-loop-holds Inv-loop μ-loop Inv-search μ-search
 loop-holds c =
-    let v = c .before .before .before .search .inv in
+    let v = outer c .search .inv in
     (omega arith, (omega (arith, v .1 .0), (v .1 .1 .0, v .1 .1 .1)))
 
 module _ (c : tie.In-loop Inv-loop μ-loop Inv-search μ-search) where
-  abbrev start : tie.Start Inv-loop μ-loop Inv-search μ-search
-  start = c .before .before .before .before .before .before .before .before .before .before
+  abbrev points : tie.After-upper-of Inv-loop μ-loop Inv-search μ-search
+  points = c .before .before
+
+  abbrev whose : tie.Start Inv-loop μ-loop Inv-search μ-search
+  whose = start (outer points)
 
   abbrev x : Terms
-  x = bare (start .args .pool) (start .args .attachments .now)
+  x = bare (whose .args .pool) (whose .args .attachments .now)
 
   abbrev j : ℕ
-  j = c .before .before .before .before .before .search .j
+  j = outer points .search .j
 
   abbrev k : ℕ
   k = c .before .loop .k
 
-  inside : c .before .loop .place < suc (start .args .pool .tranches) * suc (start .args .pool .names)
+  inside : c .before .loop .place < suc (whose .args .pool .tranches) * suc (whose .args .pool .names)
   inside =
-      omega (arith, digits-lt {q = j} {m = suc (start .args .pool .tranches)} {r = k} {c = suc (start .args .pool .names)} (omega arith) (omega arith), c .before .loop .inv .1 .0)
+      omega (arith, digits-lt {q = j} {m = suc (whose .args .pool .tranches)} {r = k} {c = suc (whose .args .pool .names)} (omega arith) (omega arith), c .before .loop .inv .1 .0)
 
   -- few places
   small : c .before .loop .place < 1134
   small =
-      let l = start .pre .0 .0 in
-      let most : suc (start .args .pool .tranches) * suc (start .args .pool .names) ≤ 9 * 126 = mul-le-mul {n₁ = suc (start .args .pool .tranches)} {m₁ = suc (start .args .pool .names)} {n₂ = 9} {m₂ = 126} (omega (arith, l .pool .tranches)) (omega (arith, l .pool .names)) in
+      let l = whose .pre .0 .0 in
+      let most : suc (whose .args .pool .tranches) * suc (whose .args .pool .names) ≤ 9 * 126 = mul-le-mul {n₁ = suc (whose .args .pool .tranches)} {m₁ = suc (whose .args .pool .names)} {n₂ = 9} {m₂ = 126} (omega (arith, l .pool .tranches)) (omega (arith, l .pool .names)) in
       omega (arith, inside)
 
-  long : length (start .args .losses .now) ≡ suc (start .args .pool .names)
-  long = ap length (start .pre .0 .1) ∙ losses-long (start .args .pool .names) (start .args .pool .recovery)
+  long : length (whose .args .losses .now) ≡ suc (whose .args .pool .names)
+  long = ap length (whose .pre .0 .1) ∙ losses-long (whose .args .pool .names) (whose .args .pool .recovery)
 
 mul-tranche-outstanding : tie.Need-mul-tranche-outstanding Inv-loop μ-loop Inv-search μ-search
-mul-tranche-outstanding c = omega (arith, start c .pre .0 .0 .pool .names)
+mul-tranche-outstanding c = omega (arith, whose c .pre .0 .0 .pool .names)
 
 shared-slice-read-tranche-outstanding : tie.Need-shared-slice-read-tranche-outstanding Inv-loop μ-loop Inv-search μ-search
 shared-slice-read-tranche-outstanding c = omega (arith, long (c .before))
@@ -82,38 +95,38 @@ shared-slice-read-tranche-outstanding c = omega (arith, long (c .before))
 tranche-outstanding-requires : tie.Need-tranche-outstanding-requires Inv-loop μ-loop Inv-search μ-search
 tranche-outstanding-requires c κs =
     let i = c .before in
-    omega (arith, i .before .before .before .lower-of .ensures, i .before .before .upper-of .ensures, points-rise (x i) (start i .pre .0 .0) (j i))
+    omega (arith, points i .before .lower-of .ensures, points i .upper-of .ensures, points-rise (x i) (whose i .pre .0 .0) (j i))
 
 -- what the tranche has left to lose
-left-is : (c : tie.After-tranche-outstanding Inv-loop μ-loop Inv-search μ-search) → c .tranche-outstanding .result ≡ defaultMost (x (c .before .before)) (j (c .before .before)) (k (c .before .before))
+left-is : (c : tie.After-tranche-outstanding Inv-loop μ-loop Inv-search μ-search) → c .tranche-outstanding .result ≡ defaultMost (x (turn c)) (j (turn c)) (k (turn c))
 left-is c =
-    let i = c .before .before in
-    ceiling-read (x i) (j i) (k i) _ _ _ _ (omega arith) (i .before .before .before .lower-of .ensures) (i .before .before .upper-of .ensures) (start i .pre .0 .1) (c .tranche-outstanding .ensures)
+    let i = turn c in
+    ceiling-read (x i) (j i) (k i) _ _ _ _ (omega arith) (points i .before .lower-of .ensures) (points i .upper-of .ensures) (whose i .pre .0 .1) (c .tranche-outstanding .ensures)
 
 mul-if1 : tie.Need-mul-if1 Inv-loop μ-loop Inv-search μ-search
-mul-if1 c = omega (arith, small (c .before .before))
+mul-if1 c = omega (arith, small (turn c))
 
 shared-slice-read-if1 : tie.Need-shared-slice-read-if1 Inv-loop μ-loop Inv-search μ-search
-shared-slice-read-if1 c = let i = c .before .before .before in omega (arith, inside i, start i .pre .1 .0)
+shared-slice-read-if1 c = let i = turn (c .before) in omega (arith, inside i, whose i .pre .1 .0)
 
 mul-if2 : tie.Need-mul-if2 Inv-loop μ-loop Inv-search μ-search
-mul-if2 c = omega (arith, small (c .before .before .before .before))
+mul-if2 c = omega (arith, small (turn (c .before .before)))
 
 shared-slice-read-if2 : tie.Need-shared-slice-read-if2 Inv-loop μ-loop Inv-search μ-search
-shared-slice-read-if2 c = let i = c .before .before .before .before .before in omega (arith, inside i, start i .pre .1 .1)
+shared-slice-read-if2 c = let i = turn (left-known c) in omega (arith, inside i, whose i .pre .1 .1)
 
 add-place : tie.Need-add-place Inv-loop μ-loop Inv-search μ-search
-add-place c = omega (arith, small (c .before .before .before .before .before .before))
+add-place c = omega (arith, small (turn (left-known (c .before))))
 
 add-k : tie.Need-add-k Inv-loop μ-loop Inv-search μ-search
-add-k c = omega (arith, start (c .before .before .before .before .before .before) .pre .0 .0 .pool .names)
+add-k c = omega (arith, whose (turn (left-known (c .before))) .pre .0 .0 .pool .names)
 
 loop-less : tie.Need-loop-less Inv-loop μ-loop Inv-search μ-search
 loop-less c = omega arith
 
 loop-again : tie.Need-loop-again Inv-loop μ-loop Inv-search μ-search
 loop-again c =
-    let i = c .before .before .before .before .before .before in
+    let i = turn (left-known (c .before)) in
     let v = i .before .loop .inv in (
       omega arith,
       (
@@ -121,13 +134,13 @@ loop-again c =
         (
           v .1 .1 .0,
           clean-more _ _ (j i) (k i) _ (v .1 .1 .1) (v .1 .0) (omega arith)
-              (under-both (x i) _ _ _ (j i) (k i) _ (v .1 .0) _ (left-is (c .before .before .before .before)) (c .before .before .if1 .left) (c .if2 .left)),
+              (under-both (x i) _ _ _ (j i) (k i) _ (v .1 .0) _ (left-is (left-known (c .before))) (c .before .before .if1 .left) (c .if2 .left)),
         ),
       ),
     )
 
 add-j : tie.Need-add-j Inv-loop μ-loop Inv-search μ-search
-add-j c = omega (arith, c .before .before .before .before .before .before .before .before .before .before .pre .0 .0 .pool .tranches)
+add-j c = omega (arith, start (outer (c .before .before)) .pre .0 .0 .pool .tranches)
 
 search-less : tie.Need-search-less Inv-loop μ-loop Inv-search μ-search
 search-less c = omega arith
@@ -135,11 +148,11 @@ search-less c = omega arith
 search-again : tie.Need-search-again Inv-loop μ-loop Inv-search μ-search
 search-again c =
     let v = c .before .loop .inv in
-    (omega arith, (omega (arith, v .1 .0, next-tranche (c .before .before .before .before .before .search .j) (suc (c .before .before .before .before .before .before .before .before .before .before .args .pool .names))), (v .1 .1 .0, v .1 .1 .1)))
+    (omega arith, (omega (arith, v .1 .0, next-tranche (outer (c .before .before) .search .j) (suc (start (outer (c .before .before)) .args .pool .names))), (v .1 .1 .0, v .1 .1 .1)))
 
 returns : tie.Need-returns Inv-loop μ-loop Inv-search μ-search
 returns c =
-    let a = c .before .before .before .before .before .before .args in
+    let a = start (c .before) .args in
     let v = c .before .search .inv in
     let e : c .before .search .j ≡ suc (a .pool .tranches) = omega arith in
     let p : c .before .search .place ≡ suc (a .pool .tranches) * suc (a .pool .names) = v .1 .0 ∙ ap (λ (j : ℕ). j * suc (a .pool .names)) e in
@@ -147,13 +160,13 @@ returns c =
 
 returns-2 : tie.Need-returns-2 Inv-loop μ-loop Inv-search μ-search
 returns-2 c =
-    let i = c .before .before .before .before in
-    sym (over-found (suc (start i .args .pool .tranches)) (suc (start i .args .pool .names)) (overAt (x i) _ _ _) (j i) (k i) (omega arith) (omega arith) (over-default (x i) _ _ _ (j i) (k i) _ (i .before .loop .inv .1 .0) _ (left-is (c .before .before)) (c .if1 .taken)))
+    let i = turn (c .before .before) in
+    sym (over-found (suc (whose i .args .pool .tranches)) (suc (whose i .args .pool .names)) (overAt (x i) _ _ _) (j i) (k i) (omega arith) (omega arith) (over-default (x i) _ _ _ (j i) (k i) _ (i .before .loop .inv .1 .0) _ (left-is (c .before .before)) (c .if1 .taken)))
 
 returns-3 : tie.Need-returns-3 Inv-loop μ-loop Inv-search μ-search
 returns-3 c =
-    let i = c .before .before .before .before .before .before in
-    sym (over-found (suc (start i .args .pool .tranches)) (suc (start i .args .pool .names)) (overAt (x i) _ _ _) (j i) (k i) (omega arith) (omega arith) (over-premium (x i) _ _ _ (j i) (k i) _ (i .before .loop .inv .1 .0) (c .if2 .taken)))
+    let i = turn (left-known (c .before)) in
+    sym (over-found (suc (whose i .args .pool .tranches)) (suc (whose i .args .pool .names)) (overAt (x i) _ _ _) (j i) (k i) (omega arith) (omega arith) (over-premium (x i) _ _ _ (j i) (k i) _ (i .before .loop .inv .1 .0) (c .if2 .taken)))
 
 pub any-over-spec : {M : Type 1} → statement M
 any-over-spec =

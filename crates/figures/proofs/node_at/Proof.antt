@@ -8,6 +8,13 @@ use Rattle.figures.proofs.Places.{place-below, node-place}
 use Rattle.figures.proofs.node_at.Statement.{statement}
 use Rattle.figures.proofs.node_at.Tie as tie
 
+-- the places: the start, seen where the number of names is read, and that, seen where the default leg is
+abbrev start : tie.After-struct-known → tie.Start
+start n = n .before .before .before .before
+
+abbrev names-read : tie.After-shared-slice-known4 → tie.After-struct-known
+names-read d = d .before .before
+
 -- where the node stands
 abbrev place : tie.Start → ℕ
 place s = s .args .tranche * (s .args .sheet .pool .names + 1) + s .args .count
@@ -22,30 +29,30 @@ add-place : tie.Need-add-place
 add-place c = search needs
 
 mul-place : tie.Need-mul-place
-mul-place c = let s = c .before .before .before .before in omega (arith, below s, few s)
+mul-place c = let s = start c in omega (arith, below s, few s)
 
 add-place-2 : tie.Need-add-place-2
-add-place-2 c = let s = c .before .before .before .before in omega (arith, below s, few s)
+add-place-2 c = let s = start c in omega (arith, below s, few s)
 
 loss-at-requires : tie.Need-loss-at-requires
 loss-at-requires c κs = search needs
 
 mul-t8 : tie.Need-mul-t8
-mul-t8 c = let s = c .before .before .before .before .before in omega (arith, below s, few s)
+mul-t8 c = let s = start (c .before) in omega (arith, below s, few s)
 
 shared-slice-read-t12 : tie.Need-shared-slice-read-t12
-shared-slice-read-t12 c = let s = c .before .before .before .before .before .before in omega (arith, below s, s .pre .1 .default-size)
+shared-slice-read-t12 c = let s = start (names-read c) in omega (arith, below s, s .pre .1 .default-size)
 
 mul-t9 : tie.Need-mul-t9
-mul-t9 c = let s = c .before .before .before .before .before .before in omega (arith, below s, few s)
+mul-t9 c = let s = start (names-read c) in omega (arith, below s, few s)
 
 shared-slice-read-t14 : tie.Need-shared-slice-read-t14
-shared-slice-read-t14 c = let s = c .before .before .before .before .before .before .before in omega (arith, below s, s .pre .1 .premium-size)
+shared-slice-read-t14 c = let s = start (names-read (c .before)) in omega (arith, below s, s .pre .1 .premium-size)
 
 returns : tie.Need-returns
 unfolding nodeOf
 returns c =
-    let s = c .before .before .before .before .before .before .before in
+    let s = start (names-read (c .before)) in
     let x = termsIn (s .args .sheet) (s .args .numbers .now) in
     λ i. record {
       loss = c .before .before .loss-at .ensures i;

@@ -19,17 +19,24 @@ Inv-loop hazards row₀ steps step₀ row step = (step ≤ steps) × (row ≡ di
 abbrev μ-loop : tie.MeasureT-loop
 μ-loop hazards row₀ steps step₀ row step = steps - step
 
+-- the places: where the function is entered, seen where the first row stands, and the loop, seen at the end of a turn
+abbrev entered : tie.After-slice-known2 Inv-loop μ-loop → tie.Start Inv-loop μ-loop
+entered f = f .before .before .before .before .before .before
+
+abbrev at-loop : tie.After-slice-known3 Inv-loop μ-loop → tie.At-loop Inv-loop μ-loop
+at-loop e = e .before .before .before .before .before
+
 start-requires : tie.Need-start-requires Inv-loop μ-loop
 start-requires c κs = search needs
 
 loop-holds : tie.Need-loop-holds Inv-loop μ-loop
 loop-holds c =
-    let s = c .before .before .before .before .before .before in
+    let s = entered c in
     (search needs, c .before .before .start .ensures ∙ row-start _ _ (omega (arith, s .pre .0)))
 
 push-requires : tie.Need-push-requires Inv-loop μ-loop
 push-requires c κs =
-    let s = c .before .before .before .before .before .before .before .before .before in
+    let s = entered (c .before .before .before) in
     let v = c .before .before .loop in
     let l : List ℕ = s .args .hazards .now in
     (ap length (v .inv .1) ∙ row-long l (v .step), (row-most l (s .pre .1) (v .step) (v .row) (v .inv .1), s .pre .1))
@@ -42,21 +49,21 @@ loop-less c = search needs
 
 loop-again : tie.Need-loop-again Inv-loop μ-loop
 loop-again c =
-    let v = c .before .before .before .before .before .loop in
-    let l : List ℕ = c .before .before .before .before .before .before .before .before .before .before .before .before .args .hazards .now in (
+    let v = at-loop c .loop in
+    let l : List ℕ = entered (at-loop c .before) .args .hazards .now in (
       search needs,
       c .before .before .push .ensures ∙ ap (pushedRow l) (v .inv .1) ∙ row-step l (v .step) ∙ ap (distributionRow (hazardSheet l)) (sym (add-one (v .step))),
     )
 
 same-length : tie.Need-same-length Inv-loop μ-loop
 same-length c =
-    let s = c .before .before .before .before .before .before .before .before in
+    let s = entered (c .before .before) in
     let v = c .before .loop in
     ap length (v .inv .1) ∙ row-long (s .args .hazards .now) (v .step) ∙ omega (arith, s .pre .0)
 
 returns : tie.Need-returns Inv-loop μ-loop
 returns c =
-    let s = c .before .before .before .before .before .before .before .before in
+    let s = entered (c .before .before) in
     let v = c .before .loop in
     let e : v .step ≡ s .args .steps = omega arith in
     v .inv .1 ∙ ap (distributionRow (hazardSheet (s .args .hazards .now))) e

@@ -16,6 +16,17 @@ Inv-loop row₀ hazards n done₀ row done = (done ≤ length hazards) × Pushin
 abbrev μ-loop : tie.MeasureT-loop
 μ-loop row₀ hazards n done₀ row done = length hazards - done
 
+-- the places: the start, seen from a turn of the loop, and the turn, seen where it is known what moves
+abbrev start : tie.In-loop Inv-loop μ-loop → tie.Start Inv-loop μ-loop
+start c = c .before .before .before .before
+
+abbrev turn : tie.After-half Inv-loop μ-loop → tie.In-loop Inv-loop μ-loop
+turn h = h .before .before .before
+
+-- the count that is next
+abbrev next : tie.In-loop Inv-loop μ-loop → ℕ
+next c = length (start c .args .hazards .now) - 1 - c .before .loop .done
+
 loop-holds : tie.Need-loop-holds Inv-loop μ-loop
 loop-holds c = (search needs, pushing-none _ _ _ _ (c .before .before .pre .0) (moves-last _ _) (omega arith))
 
@@ -37,13 +48,6 @@ mul-half c = search needs
 shared-slice-read-half : tie.Need-shared-slice-read-half Inv-loop μ-loop
 shared-slice-read-half c = search needs
 
-abbrev start : tie.In-loop Inv-loop μ-loop → tie.Start Inv-loop μ-loop
-start c = c .before .before .before .before
-
--- the count that is next
-abbrev next : tie.In-loop Inv-loop μ-loop → ℕ
-next c = length (start c .args .hazards .now) - 1 - c .before .loop .done
-
 -- a count below those that are done holds what it came with
 held-most : (c : tie.In-loop Inv-loop μ-loop) (k : ℕ) → k < length (start c .args .hazards .now) - c .before .loop .done →
     getD (c .before .loop .row) k 0 ≤ B
@@ -64,15 +68,15 @@ mul-row c = search needs
 slice-read-row : tie.Need-slice-read-row Inv-loop μ-loop
 slice-read-row c = search needs
 
-gone : (c : tie.After-half Inv-loop μ-loop) → c .half .result ≤ getD (c .before .before .before .before .loop .row) (next (c .before .before .before)) 0
+gone : (c : tie.After-half Inv-loop μ-loop) → c .half .result ≤ getD (turn c .before .loop .row) (next (turn c)) 0
 gone c =
-    let i = c .before .before .before in
+    let i = turn c in
     le-trans (le-of-eq (c .half .ensures)) (half-part _ _ (start i .pre .1 .1 _))
 
 add-row-2 : tie.Need-add-row-2 Inv-loop μ-loop
 unfolding B
 add-row-2 c =
-    let i = c .before .before .before .before in
+    let i = turn (c .before) in
     let a = start i .args in
     omega (
       arith,
@@ -100,10 +104,10 @@ loop-less : tie.Need-loop-less Inv-loop μ-loop
 loop-less c = search needs
 
 -- what the code moves is what the rule moves
-right : (c : tie.After-half Inv-loop μ-loop) → let i = c .before .before .before in
+right : (c : tie.After-half Inv-loop μ-loop) → let i = turn c in
     c .half .result ≡ moves (start i .args .hazards .now) (start i .args .row .now) (next i)
 right c =
-    let i = c .before .before .before in
+    let i = turn c in
     let a = start i .args in
     c .half .ensures
     ∙ ap (λ x. half (x * getD (a .hazards .now) (next i) 0)) (i .before .loop .inv .1 .below (next i) (omega arith))
@@ -111,7 +115,7 @@ right c =
 
 loop-again : tie.Need-loop-again Inv-loop μ-loop
 loop-again c =
-    let i = c .before .before .before .before in
+    let i = turn (c .before) in
     let v = i .before .loop in
     let n = length (start i .args .hazards .now) in (
       omega arith,

@@ -17,6 +17,14 @@ Inv-loop list least most size i₀ i = (i ≤ length list) × Passed (λ k. outs
 abbrev μ-loop : tie.MeasureT-loop
 μ-loop list least most size i₀ i = length list - i
 
+-- the turn, seen where its last four are tested
+abbrev turn : tie.After-four-outside2 Inv-loop μ-loop → tie.In-loop Inv-loop μ-loop
+turn l = l .before .before .before
+
+-- the test at a place of the list
+abbrev test : tie.In-loop Inv-loop μ-loop → ℕ → Bool
+test i k = let a = i .before .before .before .args in outside (a .least) (a .most) (getD (a .list .now) k 0)
+
 loop-holds : tie.Need-loop-holds Inv-loop μ-loop
 loop-holds c = (search needs, passed-none _)
 
@@ -28,8 +36,8 @@ four-outside-requires c κs = omega (arith, c .loop-test .taken)
 
 returns : tie.Need-returns Inv-loop μ-loop
 returns c =
-    let a = c .before .before .before .before .before .args in
-    found-four (λ k. outside (a .least) (a .most) (getD (a .list .now) k 0)) _ (c .before .before .before .loop .i) (omega (arith, c .before .before .loop-test .taken)) (sym (c .before .four-outside .ensures) ∙ c .if1 .taken)
+    let i = c .before .before in
+    found-four (test i) _ (i .before .loop .i) (omega (arith, i .loop-test .taken)) (sym (c .before .four-outside .ensures) ∙ c .if1 .taken)
 
 add-four-outside : tie.Need-add-four-outside Inv-loop μ-loop
 add-four-outside c = search needs
@@ -39,8 +47,8 @@ four-outside-requires-2 c κs = omega (arith, c .before .before .loop-test .take
 
 returns-2 : tie.Need-returns-2 Inv-loop μ-loop
 returns-2 c =
-    let a = c .before .before .before .before .before .before .before .args in
-    found-four (λ k. outside (a .least) (a .most) (getD (a .list .now) k 0)) _ (c .before .before .before .before .before .loop .i + 4) (omega (arith, c .before .before .before .before .loop-test .taken)) (sym (c .before .four-outside2 .ensures) ∙ c .if2 .taken)
+    let i = turn (c .before) in
+    found-four (test i) _ (i .before .loop .i + 4) (omega (arith, i .loop-test .taken)) (sym (c .before .four-outside2 .ensures) ∙ c .if2 .taken)
 
 add-i : tie.Need-add-i Inv-loop μ-loop
 add-i c = search needs
@@ -50,12 +58,11 @@ loop-less c = search needs
 
 loop-again : tie.Need-loop-again Inv-loop μ-loop
 loop-again c =
-    let a = c .before .before .before .before .before .before .before .args in
-    let i = c .before .before .before .before .before .loop .i in
-    let f : ℕ → Bool = λ k. outside (a .least) (a .most) (getD (a .list .now) k 0) in
-    let e : i + 4 + 4 ≡ i + 8 = omega arith in (
-      omega (arith, c .before .before .before .before .loop-test .taken),
-      rw e at (passed-four f (i + 4) (passed-four f i (c .before .before .before .before .before .loop .inv .1) (sym (c .before .before .before .four-outside .ensures) ∙ c .before .before .if1 .left)) (sym (c .before .four-outside2 .ensures) ∙ c .if2 .left)),
+    let i = turn (c .before) in
+    let k = i .before .loop .i in
+    let e : k + 4 + 4 ≡ k + 8 = omega arith in (
+      omega (arith, i .loop-test .taken),
+      rw e at (passed-four (test i) (k + 4) (passed-four (test i) k (i .before .loop .inv .1) (sym (c .before .before .before .four-outside .ensures) ∙ c .before .before .if1 .left)) (sym (c .before .four-outside2 .ensures) ∙ c .if2 .left)),
     )
 
 rest-outside-requires : tie.Need-rest-outside-requires Inv-loop μ-loop

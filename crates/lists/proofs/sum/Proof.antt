@@ -14,6 +14,10 @@ Inv-loop list total₀ i₀ total i = (i ≤ length list) × (total ≤ i * B) �
 abbrev μ-loop : tie.MeasureT-loop
 μ-loop list total₀ i₀ total i = length list - i
 
+-- the start, seen where a number is read
+abbrev start : tie.After-shared-slice-known Inv-loop μ-loop → tie.Start Inv-loop μ-loop
+start r = r .before .before .before
+
 loop-holds : tie.Need-loop-holds Inv-loop μ-loop
 loop-holds c = (search needs, search needs, summed-none _)
 
@@ -27,7 +31,7 @@ add-total : tie.Need-add-total Inv-loop μ-loop
 unfolding B
 add-total c =
     let i = c .before .before .loop .i in
-    omega (arith, c .before .before .before .pre .1 i (omega arith))
+    omega (arith, start c .pre .1 i (omega arith))
 
 add-i : tie.Need-add-i Inv-loop μ-loop
 add-i c = search needs
@@ -38,7 +42,7 @@ loop-less c = search needs
 loop-again : tie.Need-loop-again Inv-loop μ-loop
 loop-again c =
     let i = c .before .before .loop .i in
-    (omega arith, omega (arith, c .before .before .before .pre .1 i (omega arith)), summed-more _ _ _ (c .before .loop-test .taken) (c .before .before .loop .inv .2))
+    (omega arith, omega (arith, start c .pre .1 i (omega arith)), summed-more _ _ _ (c .before .loop-test .taken) (c .before .before .loop .inv .2))
 
 returns : tie.Need-returns Inv-loop μ-loop
 returns c = summed-all _ _ _ (c .loop-test .left) (c .before .loop .inv .2)

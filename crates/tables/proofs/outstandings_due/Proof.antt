@@ -15,7 +15,9 @@ same-length : tie.Need-same-length
 same-length c = search needs
 
 returns : tie.Need-returns
-returns c = c .before .before .outstandings .ensures ∙ sym (cond-due _ _ _ (sym (c .before .before .before .before .before .premium-due .ensures) ∙ c .before .before .before .before .if1 .taken))
+returns c =
+    let due = c .before .before .before .before in
+    c .before .before .outstandings .ensures ∙ sym (cond-due _ _ _ (sym (due .before .premium-due .ensures) ∙ due .if1 .taken))
 
 returns-2 : tie.Need-returns-2
 returns-2 c = sym (cond-undue _ _ _ (sym (c .before .premium-due .ensures) ∙ c .if1 .left))

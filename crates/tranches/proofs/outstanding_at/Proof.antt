@@ -6,12 +6,19 @@ use Rattle.tranches.proofs.Losses.{outstanding-is, outstanding-index, r
 use Rattle.tranches.proofs.outstanding_at.Statement.{statement}
 use Rattle.tranches.proofs.outstanding_at.Tie as tie
 
+-- the places: the start, seen where the number of tranches is read, and the branch of a tranche, seen where its points are
+abbrev start : tie.After-struct-known → tie.Start
+start t = t .before .before
+
+abbrev of-tranche : tie.After-shared-slice-known3 → tie.Else1
+of-tranche p = p .before .before .before
+
 index-outstanding-requires : tie.Need-index-outstanding-requires
 index-outstanding-requires c κs = search needs
 
 returns : tie.Need-returns
 returns c =
-    let a = c .before .before .before .before .args in
+    let a = start (c .before .before) .args in
     c .index-outstanding .ensures ∙ sym (outstanding-index (bare (a .pool) (a .attachments .now)) (a .tranche) (a .count) (c .before .if1 .taken))
 
 pool-loss-requires : tie.Need-pool-loss-requires
@@ -33,12 +40,13 @@ shared-slice-read-tranche-outstanding-2 : tie.Need-shared-slice-read-tranche-out
 shared-slice-read-tranche-outstanding-2 c = search needs
 
 tranche-outstanding-requires : tie.Need-tranche-outstanding-requires
-tranche-outstanding-requires c κs = rises-here _ _ (c .before .before .before .before .before .before .pre .0) (c .before .before .before .if1 .left)
+tranche-outstanding-requires c κs = rises-here _ _ (start (of-tranche c .before) .pre .0) (of-tranche c .if1 .left)
 
 returns-2 : tie.Need-returns-2
 returns-2 c =
-    let a = c .before .before .before .before .before .before .before .args in
-    outstanding-is (bare (a .pool) (a .attachments .now)) (a .tranche) (a .count) _ _ (c .before .before .before .before .if1 .left) (c .before .before .before .pool-loss .ensures) (c .tranche-outstanding .ensures)
+    let i = of-tranche (c .before) in
+    let a = start (i .before) .args in
+    outstanding-is (bare (a .pool) (a .attachments .now)) (a .tranche) (a .count) _ _ (i .if1 .left) (c .before .before .before .pool-loss .ensures) (c .tranche-outstanding .ensures)
 
 pub outstanding-at-spec : {M : Type 1} → statement M
 outstanding-at-spec =

@@ -38,9 +38,6 @@ loop-holds c = (omega arith, (shared-none _ _ (c .before .pre .0), swept-none _ 
 mul-losses : tie.Need-mul-losses Inv-loop μ-loop
 mul-losses c = search needs
 
-slice-write-losses : tie.Need-slice-write-losses Inv-loop μ-loop
-slice-write-losses c = omega (arith, c .before .loop .inv .1 .1 .same, c .before .before .before .pre .3)
-
 -- the remainder of one count's loss, and where it stands
 module _ (c : tie.In-loop Inv-loop μ-loop) where
   abbrev start : tie.Start Inv-loop μ-loop
@@ -55,6 +52,9 @@ module _ (c : tie.In-loop Inv-loop μ-loop) where
   loss-low : c .before .loop .loss + (B - start .args .recovery) / start .args .names ≤ 127_000_000_000
   unfolding B
   loss-low = shared-fits shared (omega (arith, start .pre .1)) (omega arith)
+
+slice-write-losses : tie.Need-slice-write-losses Inv-loop μ-loop
+slice-write-losses c = omega (arith, c .before .loop .inv .1 .1 .same, start c .pre .3)
 
 add-rest : tie.Need-add-rest Inv-loop μ-loop
 unfolding B

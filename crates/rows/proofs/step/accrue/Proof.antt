@@ -20,6 +20,13 @@ Inv-loop accrual outstandings rows₀ size i₀ rows i = (i ≤ length rows₀) 
 abbrev μ-loop : tie.MeasureT-loop
 μ-loop accrual outstandings rows₀ size i₀ rows i = length rows₀ - i
 
+-- the places: the start, seen from a turn of the loop, and the turn, seen where the premium is known
+abbrev start : tie.In-loop Inv-loop μ-loop → tie.Start Inv-loop μ-loop
+start c = c .before .before .before .before .before
+
+abbrev turn : tie.After-premium-payment Inv-loop μ-loop → tie.In-loop Inv-loop μ-loop
+turn p = p .before .before .before
+
 loop-holds : tie.Need-loop-holds Inv-loop μ-loop
 loop-holds c = (search needs, swept-none _ _)
 
@@ -35,9 +42,6 @@ mul-premium-payment c = search needs
 shared-slice-read-premium-payment : tie.Need-shared-slice-read-premium-payment Inv-loop μ-loop
 shared-slice-read-premium-payment c = search needs
 
-abbrev start : tie.In-loop Inv-loop μ-loop → tie.Start Inv-loop μ-loop
-start c = c .before .before .before .before .before
-
 here : (c : tie.In-loop Inv-loop μ-loop) → getD (c .before .loop .rows) (c .before .loop .i) 0 ≡ getD (start c .args .rows .now) (c .before .loop .i) 0
 here c = c .before .loop .inv .1 .ahead _ (le-refl _)
 
@@ -49,7 +53,7 @@ premium-payment-requires c κs =
 add-rows : tie.Need-add-rows Inv-loop μ-loop
 unfolding B
 add-rows c =
-    let i = c .before .before .before in
+    let i = turn c in
     let p = start i .pre in
     omega (arith, c .premium-payment .ensures, premium-payment-most (start i .args .accrual) _ (p .1 .0 (i .before .loop .i) (omega arith)), here i, p .1 .1 (i .before .loop .i) (omega arith), p .0 .0)
 
@@ -68,7 +72,7 @@ loop-less c = search needs
 loop-again : tie.Need-loop-again Inv-loop μ-loop
 unfolding accruedAt
 loop-again c =
-    let i = c .before .before .before in
+    let i = turn c in
     (omega arith, swept-more _ _ _ _ _ (i .before .loop .inv .1) (omega (arith, i .before .loop .inv .1 .same)) (λ t. here i t + c .premium-payment .ensures t))
 
 same-length : tie.Need-same-length Inv-loop μ-loop

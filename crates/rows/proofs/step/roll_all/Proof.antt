@@ -16,19 +16,23 @@ Inv-loop names tranches hazards discount cash rows₀ j₀ a₀ rows j a =
 abbrev μ-loop : tie.MeasureT-loop
 μ-loop names tranches hazards discount cash rows₀ j₀ a₀ rows j a = suc tranches - j
 
+-- the places: the start, seen from the loop, and the turn, seen at its end
+abbrev start : tie.At-loop Inv-loop μ-loop → tie.Start Inv-loop μ-loop
+start l = l .before .before .before .before
+
+abbrev turn : tie.After-slice-known2 Inv-loop μ-loop → tie.In-loop Inv-loop μ-loop
+turn e = e .before .before .before .before .before
+
 loop-holds : tie.Need-loop-holds Inv-loop μ-loop
 loop-holds c = passed-none _ _ _ _
 
-abbrev start : tie.In-loop Inv-loop μ-loop → tie.Start Inv-loop μ-loop
-start c = c .before .before .before .before .before
-
 -- how long the code's part is
 abbrev long : tie.In-loop Inv-loop μ-loop → ℕ
-long c = c .before .loop .a + start c .args .names + 1 - c .before .loop .a
+long c = c .before .loop .a + start (c .before) .args .names + 1 - c .before .loop .a
 
 -- the next tranche lies within the rows, and within the cash
-room : (c : tie.In-loop Inv-loop μ-loop) → c .before .loop .a + suc (start c .args .names) ≤ length (c .before .loop .rows)
-room c = fits (c .before .loop .inv) (start c .pre .rows-long) (omega arith)
+room : (c : tie.In-loop Inv-loop μ-loop) → c .before .loop .a + suc (start (c .before) .args .names) ≤ length (c .before .loop .rows)
+room c = fits (c .before .loop .inv) (start (c .before) .pre .rows-long) (omega arith)
 
 add-e : tie.Need-add-e Inv-loop μ-loop
 add-e c = omega (arith, room c)
@@ -59,13 +63,13 @@ part-roll-start-2 c = omega arith
 
 part-roll-end-2 : tie.Need-part-roll-end-2 Inv-loop μ-loop
 part-roll-end-2 c =
-    let s = start (c .before) .pre in
+    let s = start (c .before .before) .pre in
     omega (arith, room (c .before), s .cash-long, s .rows-long, c .before .before .loop .inv .swept .same)
 
 roll-requires : tie.Need-roll-requires Inv-loop μ-loop
 roll-requires c κs =
     let i = c .before .before in
-    tranche-fits (start i .pre) (i .before .loop .inv) (omega arith) (long i) (omega arith)
+    tranche-fits (start (i .before) .pre) (i .before .loop .inv) (omega arith) (long i) (omega arith)
 
 add-j : tie.Need-add-j Inv-loop μ-loop
 add-j c = search needs
@@ -75,15 +79,15 @@ loop-less c = omega arith
 
 loop-again : tie.Need-loop-again Inv-loop μ-loop
 loop-again c =
-    let i = c .before .before .before .before .before in
-    tranche-back (start i .pre) (i .before .loop .inv) (omega arith) (long i) (omega arith) (i .before .loop .a + start i .args .names + 1) _ (omega arith) (c .before .before .roll .ensures)
+    let i = turn c in
+    tranche-back (start (i .before) .pre) (i .before .loop .inv) (omega arith) (long i) (omega arith) (i .before .loop .a + start (i .before) .args .names + 1) _ (omega arith) (c .before .before .roll .ensures)
 
 same-length : tie.Need-same-length Inv-loop μ-loop
 same-length c = c .before .loop .inv .swept .same
 
 returns : tie.Need-returns Inv-loop μ-loop
 returns c =
-    let s = c .before .before .before .before .before in
+    let s = start (c .before) in
     passed-all (c .before .loop .inv) (s .pre .rows-long) (omega (arith, c .before .loop .inv .most))
 
 pub roll-all-spec : {M : Type 1} → statement M
