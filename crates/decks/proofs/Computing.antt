@@ -25,23 +25,8 @@ use Rattle.rows.specs.Rows.{nodeIn, rowOf, rolled, rolledBack, anyOver, soiled,
 use Rattle.refusals.specs.Tests.{poolBad, listsBad, recoveryBad, attachmentsBad, hazardsBad, discountsBad, accrualsBad, couponsBad, first, sheetTests}
 use Rattle.figures.specs.Nodes.{nodeOf, jump}
 use Rattle.admission.specs.LentTests.{rowsBad, rowBad, offWalk, tenTests, walkTests}
-use Rattle.walk.specs.Calls.{
-  openTests,
-  backTests,
-  valueTests,
-  ratioTests,
-  forwardTests,
-  orOutcome,
-  orForwardOutcome,
-  zeros,
-  rolls,
-  openCall,
-  backCall,
-  worth,
-  valueCall,
-  ratioCall,
-  forwardCall,
-}
+use Rattle.walk.specs.Calls.{openTests, backTests, valueTests, ratioTests, forwardTests, orOutcome, orForwardOutcome, zeros, rolls, openCall, backCall, valueCall, ratioCall, forwardCall}
+use Rattle.figures.specs.Replies.{worth}
 use Rattle.lines.specs.Text.{decimal, signed, field}
 use Rattle.commands.specs.Commands.{lowFirst, operands, commands, decoded, commandAt, entrySize, orderSize}
 use Rattle.entries.specs.Draft.{hasRoom, added}

@@ -20,6 +20,24 @@ use returns::Valued;
 use sheet::Sheet;
 use walk::Walk;
 
+// The version of these calls, raised when one of them, a struct or a number changes; 1 had no function that tells it.
+const VERSION: u64 = 2;
+
+#[no_mangle]
+pub extern "C" fn lavroudem_version() -> u64
+    ensures { λ r. ⌜ r ≡ 2 ⌝ }
+{
+    VERSION
+}
+
+// The same by name, which a program that is built for another version does not find.
+#[no_mangle]
+pub extern "C" fn lavroudem_version_2() -> u64
+    ensures { λ r. ⌜ r ≡ 2 ⌝ }
+{
+    VERSION
+}
+
 // Makes an unissued number live.
 #[no_mangle]
 pub extern "C" fn lavroudem_issue(register: &mut [u8], number: u8) -> u8

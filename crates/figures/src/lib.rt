@@ -1,4 +1,4 @@
-// What accepted calls write and read of the rows: zeros, a node, and its jump.
+// What accepted calls write and read of the rows: zeros, a node, and its jump; and what calls answer.
 ghost use mathlib.Core.Path.{_≡_};
 ghost use Prim.Native.Nat.{suc};
 ghost use lib.ListN.{length};
@@ -8,7 +8,23 @@ ghost use Rattle.rows.specs.Tables.{tab};
 ghost use Rattle.rows.specs.Rows.{rowsOf};
 ghost use Rattle.figures.specs.Nodes.{nodeOf, jump, Readable};
 use cash::Node;
+use refusals::Refusal;
 use sheet::Sheet;
+
+pub mod replies; // replies.rt: what accepted calls answer
+
+// What a call answers.
+pub enum Answer {
+    Refused(Refusal),
+    // open and forward
+    Done,
+    // back: the new position
+    Position(usize),
+    // value: D, A and W
+    Worth(u64, u64, i64),
+    // hedge ratio, in millionths
+    Ratio(i64),
+}
 
 // A row of zeros.
 pub fn clear(row: &mut [u64])

@@ -13,10 +13,10 @@ use lib.Seq.{take-all, length-take-le}
 use mathlib.Core.Logic.{⊎-elim}
 use types.Run.{OneOf}
 use denote.Enum.Declared.{tagOf}
-use Rattle.walk.proofs.Answer.{the-type}
+use Rattle.figures.proofs.Answer.{the-type}
 use Rattle.sheet.specs.Brought.{Brought}
-use Rattle.walk.specs.declared.Answer.{Answer}
-use Rattle.walk.specs.declared.Answer.the-variants.{Refused, Done, Position, Worth, Ratio}
+use Rattle.figures.specs.declared.Answer.{Answer}
+use Rattle.figures.specs.declared.Answer.the-variants.{Refused, Done, Position, Worth, Ratio}
 use Rattle.walk.specs.declared.Reply.{Reply}
 use Rattle.rows.specs.Rows.{Rows, rowsOf, rowLength}
 use Rattle.walk.specs.Answers.{Said, saidOf, accepted}

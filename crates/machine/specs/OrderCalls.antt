@@ -5,7 +5,7 @@ use Rattle.commands.specs.declared.Order.{Order}
 use Rattle.commands.specs.declared.Order.the-variants.{Issue, Withdraw, Open, Back, Value, Delta, Forward}
 use Rattle.sheet.specs.Brought.{Brought}
 use Rattle.rows.specs.Rows.{Rows}
-use Rattle.walk.specs.declared.Answer.the-variants.{Done}
+use Rattle.figures.specs.declared.Answer.the-variants.{Done}
 use Rattle.walk.specs.declared.Walk.{Walk}
 use Rattle.walk.specs.Calls.{Outcome}
 use Rattle.machine.specs.Rooms.{openInRooms, backInRooms, valueInRooms, ratioInRooms}

@@ -6,13 +6,14 @@ use lib.IntN.{ℤ, pos}
 use Rattle.sheet.specs.Brought.{Brought}
 use Rattle.refusals.specs.declared.Found.{Found}
 use Rattle.refusals.specs.declared.Found.the-variants as Found
-use Rattle.walk.specs.declared.Answer.{Answer}
-use Rattle.walk.specs.declared.Answer.the-variants.{Position, Worth, Ratio}
+use Rattle.figures.specs.declared.Answer.{Answer}
+use Rattle.figures.specs.declared.Answer.the-variants.{Position, Worth, Ratio}
 use Rattle.walk.specs.declared.Reply.{Reply}
 use Rattle.walk.specs.declared.Walk.{Walk}
 use Rattle.rows.specs.Rows.{Rows, rowsOf}
 use Rattle.walk.specs.Answers.{saidOf}
-use Rattle.walk.specs.Calls.{Outcome, replied, forwardOutcome, orOutcome, openCall, backCall, valueCall, ratioCall, forwardCall, worth}
+use Rattle.walk.specs.Calls.{Outcome, replied, forwardOutcome, orOutcome, openCall, backCall, valueCall, ratioCall, forwardCall}
+use Rattle.figures.specs.Replies.{worth}
 use Rattle.returns.specs.declared.Opened.{Opened}
 use Rattle.returns.specs.declared.Moved.{Moved}
 use Rattle.returns.specs.declared.Valued.{Valued}

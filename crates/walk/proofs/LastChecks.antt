@@ -26,12 +26,13 @@ use Rattle.refusals.specs.declared.Found.the-variants.{Fine, Refused}
 use Rattle.refusals.specs.Tests.{first, poolBad}
 use Rattle.refusals.proofs.FirstTest.{first-none, first-met, first-passed}
 use Rattle.walk.specs.declared.Walk.{Walk}
-use Rattle.walk.specs.declared.Answer.the-variants as Answer
+use Rattle.figures.specs.declared.Answer.the-variants as Answer
 use Rattle.rows.specs.Rows as Lent
 use Rattle.figures.specs.Nodes.{jump, Readable}
 use Rattle.admission.specs.LentTests.{tenTests, rowsBad, rowBad}
-use Rattle.walk.specs.Calls.{twelveTests, openTests, backTests, valueTests, ratioTests, forwardTests, zeros, rolls, worth, openCall, backCall, valueCall, ratioCall, forwardCall}
-use Rattle.walk.specs.Answers.{hedgeAnswer}
+use Rattle.walk.specs.Calls.{twelveTests, openTests, backTests, valueTests, ratioTests, forwardTests, zeros, rolls, openCall, backCall, valueCall, ratioCall, forwardCall}
+use Rattle.figures.specs.Replies.{worth}
+use Rattle.figures.specs.Replies.{hedgeAnswer}
 use Rattle.walk.proofs.Judging.{stands-fine}
 use Rattle.walk.proofs.Ordering.{Opening, OnWay, Forwarding, open-stands, open-holds, twelve-stands, twelve-holds, soiled-fine, forward-stands, forward-holds}
 use Rattle.admission.proofs.FirstRefusals.{twelve-refused, twelve-fine, ten-alike, ten-refused, ten-fine}

@@ -29,11 +29,12 @@ use Rattle.refusals.specs.declared.Found.{Found}
 use Rattle.refusals.specs.declared.Found.the-variants as Found
 use Rattle.refusals.specs.Tests.{Test, first}
 use Rattle.walk.specs.declared.Walk.{Walk}
-use Rattle.walk.specs.declared.Answer.the-variants.{Refused, Done, Position, Ratio}
+use Rattle.figures.specs.declared.Answer.the-variants.{Refused, Done, Position, Ratio}
 use Rattle.walk.specs.Answers.{saidOf, saidBy, accepted}
 use Rattle.figures.specs.Nodes.{jump}
 use Rattle.walk.specs.RefusalOrders.{RefusalOrder, Judges}
-use Rattle.walk.specs.Calls.{Outcome, ForwardOutcome, openTests, backTests, valueTests, ratioTests, forwardTests, orOutcome, orForwardOutcome, zeros, rolls, worth, openCall, backCall, valueCall, ratioCall, forwardCall}
+use Rattle.walk.specs.Calls.{Outcome, ForwardOutcome, openTests, backTests, valueTests, ratioTests, forwardTests, orOutcome, orForwardOutcome, zeros, rolls, openCall, backCall, valueCall, ratioCall, forwardCall}
+use Rattle.figures.specs.Replies.{worth}
 use Rattle.walk.specs.CallRules.{RegisterResult, WalkResult, ForwardResult, says as saying, AcceptedOpen, AcceptedBack, AcceptedValue, AcceptedRatio, AcceptedForward, RefusalEffect, ByteWrite, IssueRule, WithdrawRule, OpenRule, BackRule, ValueRule, RatioRule, ForwardRule}
 use Rattle.walk.specs.OurEngine.{writeCall, walkResult, forwardResult, ours}
 use Rattle.walk.specs.Promise.{Rules}

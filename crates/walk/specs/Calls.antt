@@ -2,22 +2,22 @@
 use Prim.Native.Nat.{ℕ, _-_, _*_}
 use mathlib.Core.Bool.{true, _||_}
 use mathlib.Core.List.{List, [], _∷_}
-use lib.ListN.{getD}
 use lib.Dec.{leb, ltb, eqb}
 use lib.IntN.{natAbs}
-use Rattle.cash.specs.Hedges.{netValue, ratioOf}
+use Rattle.cash.specs.Hedges.{ratioOf}
 use Rattle.tree.specs.Sheet.{defaultOf, premiumOf}
-use Rattle.rows.specs.Rows.{Rows, rowsOf, nodeIn, rowOf, rolledBack, distributionRow}
+use Rattle.rows.specs.Rows.{Rows, rowsOf, rowOf, rolledBack, distributionRow}
 use Rattle.sheet.specs.Brought.{Brought}
 use Rattle.refusals.specs.declared.Refusal.the-variants.{OutOfSteps, OffTree, FlatHedge, OffScale}
 use Rattle.refusals.specs.declared.Found.{Found}
 use Rattle.refusals.specs.declared.Found.the-variants as Found
 use Rattle.refusals.specs.Tests.{Test, first}
 use Rattle.walk.specs.declared.Walk.{Walk}
-use Rattle.walk.specs.declared.Answer.{Answer}
-use Rattle.walk.specs.declared.Answer.the-variants.{Refused, Done, Position, Worth, Ratio}
+use Rattle.figures.specs.declared.Answer.{Answer}
+use Rattle.figures.specs.declared.Answer.the-variants.{Refused, Done, Position, Ratio}
 use Rattle.walk.specs.declared.Reply.{Reply}
 use Rattle.figures.specs.Nodes.{jump}
+use Rattle.figures.specs.Replies.{worth}
 use Rattle.admission.specs.LentTests.{rowsBad, rowBad, tenTests, walkTests}
 
 -- What open, back, value and hedge ratio give back; and forward.
@@ -96,12 +96,6 @@ backCall x register walk rows c =
       walk = record { «open» = walk .«open»; number = walk .number; position = walk .position - c };
       rows = rolls x (walk .position) c rows;
     })
-
--- D, A and W of tranche j at the count k.
-unfoldable pub worth : Brought → Rows → ℕ → ℕ → Answer
-worth x rows j k =
-    Worth (nodeIn (x .sheet) (rows .defaults) j k) (nodeIn (x .sheet) (rows .premiums) j k)
-    (netValue (nodeIn (x .sheet) (rows .defaults) j k) (getD (x .coupons) j 0) (nodeIn (x .sheet) (rows .premiums) j k))
 
 unfoldable pub valueCall : Brought → List ℕ → Walk → Rows → ℕ → ℕ → Outcome
 valueCall x register walk rows j k =

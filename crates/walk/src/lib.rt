@@ -8,12 +8,12 @@ ghost use Rattle.walk.specs.OurEngine.{walkResult, forwardResult};
 ghost use Rattle.walk.specs.Contracts.{Promised};
 ghost use Rattle.rows.specs.Rows.{rowsOf};
 ghost use Rattle.walk.specs.Calls.{replied, forwardOutcome, openCall, backCall, valueCall, ratioCall, forwardCall};
+pub use figures::Answer;
+use figures::replies;
 use refusals::Found;
 pub use refusals::Refusal;
 pub use sheet::Pool;
 pub use sheet::Sheet;
-
-mod replies; // replies.rt: what accepted calls answer
 
 // A walk: whether it is open, the number of its sheet, and the step it stands at. A fresh one is all zeros.
 #[repr(C)]
@@ -21,19 +21,6 @@ pub struct Walk {
     pub open: bool,
     pub number: u8,
     pub position: usize,
-}
-
-// What a call answers.
-pub enum Answer {
-    Refused(Refusal),
-    // open and forward
-    Done,
-    // back: the new position
-    Position(usize),
-    // value: D, A and W
-    Worth(u64, u64, i64),
-    // hedge ratio, in millionths
-    Ratio(i64),
 }
 
 // An answer with the walk handed back.

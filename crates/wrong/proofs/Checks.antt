@@ -20,7 +20,7 @@ use Rattle.refusals.specs.Refusals.{refusalNumber}
 use Rattle.lists.specs.Outside.{outside}
 use Rattle.refusals.specs.Tests.{poolBad, Test, first}
 use Rattle.walk.specs.declared.Walk.{Walk}
-use Rattle.walk.specs.declared.Answer.the-variants as Answer
+use Rattle.figures.specs.declared.Answer.the-variants as Answer
 use Rattle.rows.specs.Rows.{Rows}
 use Rattle.walk.specs.CallRules.{WalkResult}
 use Rattle.figures.specs.Nodes.{jump}

@@ -13,7 +13,8 @@ use Rattle.rows.specs.Rows.{nodeIn, rowOf, rolled, rolledBack, anyOver, soiled,
 use Rattle.refusals.specs.Tests.{poolBad, listsBad, recoveryBad, attachmentsBad, hazardsBad, discountsBad, accrualsBad, couponsBad, first, sheetTests}
 use Rattle.figures.specs.Nodes.{nodeOf, jump}
 use Rattle.admission.specs.LentTests.{rowsBad, rowBad, offWalk, tenTests, walkTests}
-use Rattle.walk.specs.Calls.{openTests, backTests, valueTests, ratioTests, forwardTests, orOutcome, orForwardOutcome, zeros, rolls, openCall, backCall, worth, valueCall, ratioCall, forwardCall}
+use Rattle.walk.specs.Calls.{openTests, backTests, valueTests, ratioTests, forwardTests, orOutcome, orForwardOutcome, zeros, rolls, openCall, backCall, valueCall, ratioCall, forwardCall}
+use Rattle.figures.specs.Replies.{worth}
 use Rattle.walk.specs.CallRules.{backwardRule}
 use Rattle.wrong.specs.Substitutes.{steppedBy, rolledBy, movedInPlace, lowRow}
 use Rattle.walk.specs.CallLists.{afterWrite, afterOpen, afterWalkCall, callResult, noted, stateAfter, historyAfter}

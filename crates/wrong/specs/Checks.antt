@@ -21,11 +21,12 @@ use Rattle.refusals.specs.Refusals.{refusalNumber}
 use Rattle.lists.specs.Outside.{outside}
 use Rattle.refusals.specs.Tests.{differs, Test, first}
 use Rattle.walk.specs.declared.Walk.{Walk}
-use Rattle.walk.specs.declared.Answer.the-variants as Answer
+use Rattle.figures.specs.declared.Answer.the-variants as Answer
 use Rattle.walk.specs.Answers.{fresh}
 use Rattle.figures.specs.Nodes.{jump}
 use Rattle.admission.specs.LentTests.{isWithdrawn, isUnissued}
-use Rattle.walk.specs.Calls.{openTests, backTests, valueTests, ratioTests, forwardTests, orOutcome, orForwardOutcome, zeros, rolls, worth}
+use Rattle.walk.specs.Calls.{openTests, backTests, valueTests, ratioTests, forwardTests, orOutcome, orForwardOutcome, zeros, rolls}
+use Rattle.figures.specs.Replies.{worth}
 use Rattle.walk.specs.CallRules.{says}
 use Rattle.walk.specs.Engine.{Engine}
 use Rattle.walk.specs.CallLists.{ownRows, issue, back, value}

@@ -24,7 +24,7 @@ use Rattle.cash.specs.Hedges.{hedgeOf}
 use Rattle.sheet.specs.Limits.{TranchesWithin}
 use Rattle.sheet.proofs.Limits.{limits-terms}
 use Rattle.figures.specs.Nodes.{jump, Readable}
-use Rattle.walk.specs.Answers.{hedgeAnswer}
+use Rattle.figures.specs.Replies.{hedgeAnswer}
 use Rattle.walk.proofs.Ordering.{OnWay}
 use Rattle.walk.proofs.OurRules.{hedges}
 use Rattle.walk.proofs.LastChecks.{on-way, readable, jump-few, ratio-not, ratio-off, ratio-done}

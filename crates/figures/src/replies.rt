@@ -5,16 +5,15 @@ ghost use lib.IntN.{natAbs};
 ghost use Rattle.cash.specs.Hedges.{hedgeOf};
 ghost use Rattle.sheet.specs.Spans.{broughtIn};
 ghost use Rattle.rows.specs.Rows.{rowsOf};
 ghost use Rattle.figures.specs.Nodes.{Readable};
-ghost use Rattle.walk.specs.Answers.{hedgeAnswer};
-ghost use Rattle.walk.specs.Calls.{worth};
+ghost use Rattle.figures.specs.Replies.{worth, hedgeAnswer};
 use crate::Answer;
 use cash::Hedge;
 use refusals::Refusal;
 use sheet::Sheet;
 
 // D, A and W of a tranche at a count.
-pub(crate) fn worth_at(
+pub fn worth_at(
     sheet: Sheet,
     numbers: &[u64],
     defaults: &[u64],
@@ -33,7 +32,7 @@ pub(crate) fn worth_at(
 }
 
 // The ratio of two jumps as it is answered.
-pub(crate) fn ratio_of(tranche: i64, index: i64) -> Answer
+pub fn ratio_of(tranche: i64, index: i64) -> Answer
     requires { ⌜ (natAbs tranche ≤ 200_000_000_000_000_000) × (natAbs index ≤ 200_000_000_000_000_000) ⌝ }
     ensures { λ r. ⌜ r ≡ hedgeAnswer (hedgeOf tranche index) ⌝ }
 {

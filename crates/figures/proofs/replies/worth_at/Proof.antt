@@ -9,12 +9,12 @@ use Rattle.cash.specs.Hedges.{netValue}
 use Rattle.rows.specs.Rows.{nodeIn}
 use Rattle.sheet.specs.Brought.{Brought}
 use Rattle.sheet.specs.Spans.{broughtIn}
-use Rattle.walk.specs.declared.Answer.the-variants.{Worth}
-use Rattle.walk.specs.Calls.{worth}
+use Rattle.figures.specs.declared.Answer.the-variants.{Worth}
+use Rattle.figures.specs.Replies.{worth}
 use Rattle.rows.proofs.Lent.{enough}
 use Rattle.figures.proofs.Places.{place-below, node-place}
-use Rattle.walk.proofs.replies.worth_at.Statement.{statement}
-use Rattle.walk.proofs.replies.worth_at.Tie as tie
+use Rattle.figures.proofs.replies.worth_at.Statement.{statement}
+use Rattle.figures.proofs.replies.worth_at.Tie as tie
 
 abbrev sheet : tie.Start → Brought
 sheet s = broughtIn (s .args .sheet) (s .args .numbers .now)

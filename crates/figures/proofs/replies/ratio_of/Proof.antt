@@ -2,11 +2,11 @@ use borrow.Author.Needs.{needs}
 use mathlib.Core.Path.{_≡_, sym, _∙_, ap}
 use mir.Syntax.{w64}
 use mir.ValLaws.{toZ-ofZ}
-use Rattle.walk.specs.declared.Answer.the-variants.{Ratio}
+use Rattle.figures.specs.declared.Answer.the-variants.{Ratio}
 use Rattle.cash.specs.Hedges.{hedgeOf}
-use Rattle.walk.specs.Answers.{hedgeAnswer}
-use Rattle.walk.proofs.replies.ratio_of.Statement.{statement}
-use Rattle.walk.proofs.replies.ratio_of.Tie as tie
+use Rattle.figures.specs.Replies.{hedgeAnswer}
+use Rattle.figures.proofs.replies.ratio_of.Statement.{statement}
+use Rattle.figures.proofs.replies.ratio_of.Tie as tie
 
 -- what is read of the two jumps is the jumps
 read : (c : tie.After-hedge-ratio) → c .hedge-ratio .result ≡ hedgeOf (c .before .args .tranche) (c .before .args .index)
