@@ -10,6 +10,7 @@ const HEADER: &str = include_str!("../../c/lavroudem.h");
 #[test]
 fn limits_and_bytes_are_the_same() {
     let numbers = [
+        ("VERSION", VERSION),
         ("ONE", ONE),
         ("MAX_NAMES", MAX_NAMES as u64),
         ("MAX_STEPS", MAX_STEPS as u64),
@@ -66,6 +67,15 @@ fn screaming(name: &str) -> String {
         text.extend(letter.to_uppercase());
     }
     text
+}
+
+/// An archive of another version has not the function that the header names.
+#[test]
+fn the_version_is_linked() {
+    let name = format!("lavroudem_version_{VERSION}");
+    assert_eq!(HEADER.matches("lavroudem_version_").count(), 3);
+    assert!(HEADER.contains(&format!("uint64_t {name}(void);")));
+    assert!(HEADER.contains(&format!("lavroudem_linked_version)(void) = {name};")));
 }
 
 /// The header's table of words, in the order of their numbers.
@@ -202,7 +212,10 @@ fn declaration(function: &str) -> String {
     let parameters: Vec<String> = pairs
         .map(|(parameter, kind)| declared(called(name, parameter.trim()), kind.trim()))
         .collect();
-    let parameters = parameters.join(", ");
+    let mut parameters = parameters.join(", ");
+    if parameters.is_empty() {
+        parameters = "void".into();
+    }
     format!("{} {name}({parameters});", plain(answer))
 }
 
