@@ -274,8 +274,9 @@ fn busy_deck(random: &mut Random) -> Vec<u8> {
 }
 
 fn random_deck(random: &mut Random) -> Vec<u8> {
-    match random.below(3) {
-        0 => decks::any(random),
+    match random.below(12) {
+        0 => decks::oversized(random),
+        1..=3 => decks::any(random),
         _ => busy_deck(random),
     }
 }
