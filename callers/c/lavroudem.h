@@ -89,13 +89,14 @@ LAVROUDEM_STAYS static uint64_t (*const lavroudem_linked_version)(void) = lavrou
  * A call writes the memory that it is lent, and no more. To keep a register in
  * a file, so that a withdrawn number stays withdrawn over a power loss:
  *
- * - lock the file, and keep it locked as long as the register is in use: two
- *   users of one register undo each other's withdrawals;
+ * - lock the file, and keep it locked as long as the register is in use: of two
+ *   users, each with a copy, one would show what the other has withdrawn;
  * - take a file of another length, or none, as an error, never as blank;
  * - after an accepted issue or withdraw write the byte of its number, and no
  *   other, to its place in the file, and force it to the disk (fdatasync);
  * - believe the answer, and show it, only then. If a write or a sync fails,
- *   what the disk holds is unknown: stop, and read the register anew.
+ *   what the disk holds is unknown: stop, and open the register anew. There,
+ *   write all bytes as they were read, and force them, before believing them.
  *
  * kept.c is an example. What is assumed of the disk: where the power fails in
  * such a write, each bit that it should clear is found cleared or not, and all

@@ -7,7 +7,7 @@ mod common;
 
 use common::writes::{told, Write as ByteWrite};
 use common::Random;
-use lavroudem::{KeptError, KeptRegister, RegisterFile, Store};
+use lavroudem::{KeptError, KeptRegister, RegisterFile, RegisterStore};
 use lavroudem_model::commands::{encode, ISSUE, WITHDRAW};
 use lavroudem_model::deck::run_on;
 use lavroudem_model::decks;
@@ -54,7 +54,7 @@ struct Disk {
     journal: Journal,
 }
 
-impl Store for Disk {
+impl RegisterStore for Disk {
     fn read(&mut self) -> io::Result<Vec<u8>> {
         Ok(self.bytes.clone())
     }
@@ -415,7 +415,7 @@ impl Cached {
 #[derive(Clone)]
 struct Shared(Rc<RefCell<Cached>>);
 
-impl Store for Shared {
+impl RegisterStore for Shared {
     fn read(&mut self) -> io::Result<Vec<u8>> {
         Ok(self.0.borrow().cache.clone())
     }
@@ -517,7 +517,7 @@ impl Stopping {
     }
 }
 
-impl Store for Stopping {
+impl RegisterStore for Stopping {
     fn read(&mut self) -> io::Result<Vec<u8>> {
         self.file.read()
     }

@@ -189,6 +189,16 @@ fn a_listing_that_is_lost() {
     );
 }
 
+#[test]
+fn a_status_is_told_where_its_message_is_lost() {
+    let full = || File::options().write(true).open("/dev/full").unwrap();
+    let output = kept().stderr(full()).output().unwrap();
+    assert_eq!(told(&output), (2, "", false));
+    let missing = ["run", "/none/register", "/none/deck"];
+    let output = kept().args(missing).stderr(full()).output().unwrap();
+    assert_eq!(told(&output), (1, "", false));
+}
+
 /// Nobody reads the other end.
 #[test]
 fn a_listing_into_a_closed_pipe() {

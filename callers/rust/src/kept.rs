@@ -18,7 +18,7 @@ use std::path::Path;
 /// fails in a write of a byte, or before the next sync returns, then each bit
 /// that the write should change is found changed or not, and every other bit,
 /// of this byte and of all others, is found as it was.
-pub trait Store {
+pub trait RegisterStore {
     /// All bytes.
     fn read(&mut self) -> io::Result<Vec<u8>>;
     /// Writes one byte at its place.
@@ -80,8 +80,8 @@ impl KeptRegister {
     }
 }
 
-impl<S: Store> KeptRegister<S> {
-    /// Reads the register of a store.
+impl<S: RegisterStore> KeptRegister<S> {
+    /// Reads the register of a store, and forces to the disk what was read.
     pub fn over(mut store: S) -> Result<KeptRegister<S>, KeptError> {
         let found = store.read().map_err(KeptError::Open)?;
         let length = found.len() as u64;
@@ -130,7 +130,7 @@ impl<S: Store> KeptRegister<S> {
     /// the disk, and only then answered.
     fn call(&mut self, call: Call, number: u8) -> Result<(), KeptError> {
         let mut after = *self.bytes()?;
-        call(&mut after, number).map_err(KeptError::Refused)?;
+        call(&mut after, number)?;
         let at = usize::from(number);
         self.in_doubt = true;
         self.store.write(at, after[at]).map_err(KeptError::Write)?;
@@ -146,7 +146,7 @@ impl<S: Store> KeptRegister<S> {
     ///
     /// Where `out` takes no more, the register is written all the same, and
     /// the error is [`KeptError::Output`]. After any other error `out` has had
-    /// the lines before the write that failed.
+    /// no line of an issue or withdraw that is not on the disk.
     pub fn run_deck(&mut self, deck: &[u8], out: &mut impl Write) -> Result<(), KeptError> {
         let mut exit = *self.bytes()?;
         let listing = crate::run_on(deck, &mut exit);
@@ -189,11 +189,12 @@ impl<S: Store> KeptRegister<S> {
             self.call(told.call, told.number)?;
             shown = told.line;
         }
+        self.compare(exit)?;
         screen.show(&listing[shown..]);
-        self.compare(exit)
+        Ok(())
     }
 
-    /// The end of a run: what can be read back.
+    /// Behind the last write of a deck: what can be read back.
     fn compare(&mut self, exit: &[u8; REGISTER_LENGTH]) -> Result<(), KeptError> {
         let found = self.store.read().map_err(KeptError::Open);
         let compared = found.and_then(|found| same(&found, exit));

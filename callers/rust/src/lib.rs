@@ -54,7 +54,7 @@ mod sheet;
 mod walk;
 
 pub use archive::{issue, withdraw};
-pub use kept::{KeptError, KeptRegister, RegisterFile, Store};
+pub use kept::{KeptError, KeptRegister, RegisterFile, RegisterStore};
 pub use open_walk::OpenWalk;
 pub use refusal::Refusal;
 pub use sheet::{Lists, Pool, Sheet};
@@ -65,8 +65,7 @@ pub use walk::{Value, Walk};
 /// Each hands back the walk that it was given, moved if it was accepted. The
 /// caller keeps walk and rows together: from an open on, the same sheet is
 /// brought, and the rows as the last call left them. Rows are the caller's
-/// own memory: what is read there, and not by a value call, no register is
-/// asked for.
+/// own memory: no register is asked when he reads them himself.
 pub mod lent {
     pub use crate::archive::{
         back, deck_room, forward, hedge_ratio, open, run_deck, run_on, value,

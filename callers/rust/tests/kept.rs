@@ -223,8 +223,11 @@ fn a_register_that_someone_else_wrote() {
     let path = folder.register();
     let mut register = KeptRegister::create(&path).unwrap();
     fs::write(&path, blank_but(9, LIVE)).unwrap();
-    let done = register.run_deck(WORKED_DECK, &mut io::sink());
+    let mut shown = Vec::new();
+    let done = register.run_deck(WORKED_DECK, &mut shown);
     assert!(matches!(done, Err(KeptError::Differs)), "{done:?}");
+    // The lines from the last write on are held back.
+    assert!(shown.ends_with(b"forward 0 170000000\n"));
     assert!(matches!(register.bytes(), Err(KeptError::InDoubt)));
 }
 
@@ -250,7 +253,7 @@ impl Told {
 #[derive(Clone, Default)]
 struct Counting(Rc<RefCell<Told>>);
 
-impl Store for Counting {
+impl RegisterStore for Counting {
     fn read(&mut self) -> io::Result<Vec<u8>> {
         let mut bytes = BLANK_REGISTER.to_vec();
         for &(at, byte) in &self.0.borrow().writes {
@@ -344,7 +347,7 @@ fn a_register_that_can_not_be_forced_is_not_opened() {
 /// A store of another length than a register.
 struct Short;
 
-impl Store for Short {
+impl RegisterStore for Short {
     fn read(&mut self) -> io::Result<Vec<u8>> {
         Ok(vec![UNISSUED; 255])
     }

@@ -4,7 +4,7 @@ use lavroudem::{KeptError, KeptRegister, MAX_DECK};
 use std::env;
 use std::ffi::{OsStr, OsString};
 use std::fs::File;
-use std::io::{self, Read};
+use std::io::{self, Read, Write};
 use std::process::ExitCode;
 
 const USAGE: &str = "\
@@ -30,7 +30,8 @@ fn main() -> ExitCode {
     let Err((message, status)) = done else {
         return ExitCode::SUCCESS;
     };
-    eprintln!("{}", message.trim_end());
+    // The status is told even where the message is lost.
+    let _ = writeln!(io::stderr(), "{}", message.trim_end());
     ExitCode::from(status)
 }
 

@@ -30,6 +30,12 @@ pub enum KeptError {
     Output(io::Error),
 }
 
+impl From<Refusal> for KeptError {
+    fn from(refusal: Refusal) -> KeptError {
+        KeptError::Refused(refusal)
+    }
+}
+
 impl fmt::Display for KeptError {
     fn fmt(&self, f: &mut fmt::Formatter<'_>) -> fmt::Result {
         match self {

@@ -1,6 +1,6 @@
 //! A register in a file.
 
-use super::{KeptError, Store};
+use super::{KeptError, RegisterStore};
 use crate::{BLANK_REGISTER, REGISTER_LENGTH};
 use std::fs::{self, File, TryLockError};
 use std::io;
@@ -70,7 +70,7 @@ fn lock(file: &File, otherwise: fn(io::Error) -> KeptError) -> Result<(), KeptEr
     }
 }
 
-impl Store for RegisterFile {
+impl RegisterStore for RegisterFile {
     fn read(&mut self) -> io::Result<Vec<u8>> {
         let mut bytes = vec![0; REGISTER_LENGTH];
         self.file.read_exact_at(&mut bytes, 0)?;
