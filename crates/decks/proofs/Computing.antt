@@ -50,7 +50,8 @@ use Rattle.machine.specs.Transitions.{transitionOf}
 use Rattle.render.specs.Lines.{word, deckWord, fields, answerText, line, orderLine, deckLine}
 use Rattle.execution.specs.Effects.{entryEffect, orderEffect, effectOf}
 use Rattle.interpreter.specs.ListingFrom.{listingFrom}
-use Rattle.deck.specs.Listing.{listing}
+use Rattle.interpreter.specs.RegisterFrom.{registerFrom}
+use Rattle.deck.specs.Listing.{listingOn, registerAfter}
 use Rattle.decks.specs.Limits.{times}
 
 -- what makes a line of an answer
@@ -114,5 +115,5 @@ unfolding paymentsComputed hedgesComputed legsComputed treeComputed rowsComputed
 engineComputed = tt
 
 unfoldable pub computed : Unit {0}
-unfolding engineComputed printed commandsComputed machineComputed entryEffect orderEffect effectOf listingFrom listing times
+unfolding engineComputed printed commandsComputed machineComputed entryEffect orderEffect effectOf listingFrom registerFrom listingOn registerAfter times
 computed = tt

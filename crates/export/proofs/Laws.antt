@@ -7,7 +7,7 @@ use lib.ListN.{length}
 use native.Mathlib.Omega.{arith}
 use Rattle.deck.specs.declared.Ran.{Ran}
 use Rattle.deck.specs.declared.Ran.the-variants.{Printed, NoRoom}
-use Rattle.deck.specs.Listing.{room, printout, printing}
+use Rattle.deck.specs.Listing.{room, printout, printingOn}
 use Rattle.deck.proofs.Printing.{printed-within, no-room-only}
 use Rattle.sheet.specs.Brought.{Brought}
 use Rattle.checks.specs.declared.Found.{Found}
@@ -126,6 +126,7 @@ forward-returned x register row i a left n e h = (h ∙ (λ t. saidOf (e t .answ
 -- ---- the number for no room
 
 -- No listing has as many bytes.
-pub told-apart : (deck out after : List ℕ) (a : Ran) → printout a after ≡ printing deck out → length after < bytesIn NoRoom → bytesIn a ≡ bytesIn NoRoom → length out < room (length deck)
-told-apart deck out after (Printed r) e h q = absurd (omega (arith, printed-within deck out after r e))
-told-apart deck out after NoRoom e h q = no-room-only deck out after e
+pub told-apart : (register deck out after : List ℕ) (a : Ran) → printout a after ≡ printingOn register deck out → length after < bytesIn NoRoom →
+    bytesIn a ≡ bytesIn NoRoom → length out < room (length deck)
+told-apart register deck out after (Printed r) e h q = absurd (omega (arith, printed-within register deck out after r e))
+told-apart register deck out after NoRoom e h q = no-room-only register deck out after e

@@ -4,7 +4,7 @@ ghost use mathlib.Core.Path.{_≡_};
 ghost use Prim.Native.Nat.{_<_};
 ghost use lib.ListN.{length};
 ghost use Rattle.deck.specs.declared.Ran.the-variants.{NoRoom};
-ghost use Rattle.deck.specs.Listing.{room, printing};
+ghost use Rattle.deck.specs.Listing.{room, printing, printingOn, registerLeft};
 ghost use Rattle.register.specs.Register.{issueAnswer, issueLeaves, withdrawAnswer, withdrawLeaves};
 ghost use Rattle.sheet.specs.Spans.{broughtIn};
 ghost use Rattle.walk.specs.Answers.{saidOf, saidBy};
@@ -204,4 +204,15 @@ pub extern "C" fn lavroudem_run_deck(deck: &[u8], out: &mut [u8]) -> usize
     ensures apart { λ r. ⌜ (r ≡ bytesIn NoRoom → length (now (out .entry)) < room (length (now (deck .entry)))) ⌝ }
 {
     values::bytes_in(deck::run(deck, out))
+}
+
+// The same on a register that is lent, of any length: it is left as the deck's issues and withdrawals leave it, and as it was where there is no room.
+#[no_mangle]
+pub extern "C" fn lavroudem_run_on(deck: &[u8], register: &mut [u8], out: &mut [u8]) -> usize
+    ensures said { λ r. ⌜ r ≡ bytesIn (printingOn (now (register .entry)) (now (deck .entry)) (now (out .entry)) .answer) ⌝ }
+    ensures prints { λ _. ⌜ now (out .exit) ≡ printingOn (now (register .entry)) (now (deck .entry)) (now (out .entry)) .out ⌝ }
+    ensures leaves { λ _. ⌜ now (register .exit) ≡ registerLeft (now (register .entry)) (now (deck .entry)) (now (out .entry)) ⌝ }
+    ensures apart { λ r. ⌜ (r ≡ bytesIn NoRoom → length (now (out .entry)) < room (length (now (deck .entry)))) ⌝ }
+{
+    values::bytes_in(deck::run_on(deck, register, out))
 }

@@ -1,10 +1,11 @@
 -- `execution::execute` meets its contract: each way out is a law of `EffectLaws`.
-use mathlib.Core.Path.{sym, _∙_, subst}
+use mathlib.Core.Path.{refl, sym, _∙_, subst}
 use Rattle.entries.specs.declared.Layout.{Layout}
 use Rattle.entries.specs.Layouts.{LayoutLimits}
 use Rattle.machine.specs.Machine.{Machine}
 use Rattle.execution.specs.Executions.{machineAt}
 use Rattle.execution.proofs.EffectLaws.{
+  true-not-false,
   execution-as,
   refusal-executed,
   limits-stay,
@@ -58,7 +59,7 @@ returns c =
       limits-stay refused (s .pre .1 .0),
       (
         s .pre .1 .1 .0,
-        execution-as (unknown-effect (s .args .from .at) (machine s) read) (refusal-executed 18 (s .args .from) _ refused),
+        (execution-as (unknown-effect (s .args .from .at) (machine s) read) (refusal-executed 18 (s .args .from) _ refused), λ z. refl),
       ),
     )
 
@@ -80,7 +81,7 @@ returns-2 c =
       limits-stay refused (s .pre .1 .0),
       (
         s .pre .1 .1 .0,
-        execution-as (cut-effect (s .args .from .at) (machine s) read) (refusal-executed 19 (s .args .from) _ refused),
+        (execution-as (cut-effect (s .args .from .at) (machine s) read) (refusal-executed 19 (s .args .from) _ refused), λ z. refl),
       ),
     )
 
@@ -106,8 +107,11 @@ returns-3 c =
       done .0,
       (
         s .pre .1 .1 .0,
-        execution-as (enter-effect (s .args .from .at) (machine s) read)
-            (done .1 (s .args .register .now) (s .args .defaults .now) (s .args .premiums .now) (s .args .row .now)),
+        (
+          execution-as (enter-effect (s .args .from .at) (machine s) read)
+              (done .1 (s .args .register .now) (s .args .defaults .now) (s .args .premiums .now) (s .args .row .now)),
+          λ z. refl,
+        ),
       ),
     )
 
@@ -143,7 +147,10 @@ returns-4 c =
     let done = e .obey .ensures in
     let read = sym (command .command-at .ensures) ∙ e .before .before .before .before .before .before .before .before .order .given .1 in (
       subst (λ (l : Layout). LayoutLimits l (s .args .numbers .now)) (sym (done .1 .0)) (s .pre .1 .0),
-      (done .0, execution-as (act-effect (s .args .from .at) (machine s) read) (done .1 .1)),
+      (
+        done .0,
+        (execution-as (act-effect (s .args .from .at) (machine s) read) (done .1 .1 .0), λ z. absurd (true-not-false z (done .1 .1 .1))),
+      ),
     )
 
 pub execute-spec : {M : Type 1} → statement M

@@ -5,7 +5,6 @@ use Rattle.orders.proofs.OrderLaws.{
   withdraw-acts,
   call-acts,
   forward-acts,
-  lengths-register,
   lengths-rooms,
   lengths-row,
 }
@@ -44,7 +43,7 @@ returns : tie.Need-returns
 returns c =
     let s = c .before .before .before .before .before .before .before .before .before .before .before .before .before in
     let t = c .before .before .issue in (
-      lengths-register (s .pre) (t .kept .1 .0),
+      s .pre,
       issue-acts (s .args .order) (draftIn (s .args .layout) (s .args .numbers .now)) (s .args .walk) (s .args .register .now)
           (s .args .defaults .now) (s .args .premiums .now) (s .args .row .now)
           (c .before .before .before .before .before .order .given .1) (t .ensures .0) (t .ensures .1 .0) (t .ensures .1 .1),
@@ -57,7 +56,7 @@ returns-2 : tie.Need-returns-2
 returns-2 c =
     let s = c .before .before .before .before .before .before .before .before .before .before .before .before .before in
     let t = c .before .before .withdraw in (
-      lengths-register (s .pre) (t .kept .1 .0),
+      s .pre,
       withdraw-acts (s .args .order) (draftIn (s .args .layout) (s .args .numbers .now)) (s .args .walk) (s .args .register .now)
           (s .args .defaults .now) (s .args .premiums .now) (s .args .row .now)
           (c .before .before .before .before .before .order2 .given .1) (t .ensures .0) (t .ensures .1 .0) (t .ensures .1 .1),
