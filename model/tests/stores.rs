@@ -40,7 +40,7 @@ const JUDGES: [&str; 2] = [
 ];
 
 /// The others that may write a register, and the calls that they hand it to.
-const HANDS_ON: [(&str, &[&str]); 8] = [
+const HANDS_ON: [(&str, &[&str]); 10] = [
     (
         "export/src/lib.rt: lavroudem_issue",
         &["register::issue(register)"],
@@ -69,13 +69,18 @@ const HANDS_ON: [(&str, &[&str]); 8] = [
         "interpreter/src/lib.rt: interpret",
         &["execution::execute(register)"],
     ),
+    (
+        "deck/src/lib.rt: run_on",
+        &["interpreter::interpret(register)"],
+    ),
+    (
+        "export/src/lib.rt: lavroudem_run_on",
+        &["deck::run_on(register)"],
+    ),
 ];
 
 /// The one function of the engine with a register of its own.
-const OWNS: (&str, &str) = (
-    "deck/src/lib.rt: run",
-    "interpreter::interpret(&mut register)",
-);
+const OWNS: (&str, &str) = ("deck/src/lib.rt: run", "run_on(&mut register)");
 
 /// The trials are a caller, and make up registers of their own.
 const TRIALS: &str = "trials/";
