@@ -1,8 +1,8 @@
 use mathlib.Core.Path.{sym, _∙_}
 use native.Mathlib.Omega.{arith}
-use Rattle.export.specs.Figures.{bytesIn}
+use Rattle.export.specs.Bytes.{bytesIn}
 use borrow.Author.Needs.{needs}
-use Rattle.export.proofs.Laws.{told-apart}
+use Rattle.export.proofs.Bytes.{told-apart}
 use Rattle.export.proofs.lavroudem_run_on.Statement.{statement}
 use Rattle.export.proofs.lavroudem_run_on.Tie as tie
 
