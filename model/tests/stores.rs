@@ -83,7 +83,7 @@ const HANDS_ON: [(&str, &[&str]); 10] = [
 const OWNS: (&str, &str) = ("deck/src/lib.rt: run", "run_on(&mut register)");
 
 /// The trials are a caller, and make up registers of their own.
-const TRIALS: &str = "trials/";
+const TRIALS: [&str; 2] = ["trial/", "trials/"];
 
 // ---- the source, as words
 
@@ -216,7 +216,7 @@ fn functions() -> Vec<Function> {
     let mut found = Vec::new();
     for path in sources() {
         let file = path.strip_prefix(crates()).unwrap().to_str().unwrap();
-        if file.starts_with(TRIALS) {
+        if TRIALS.iter().any(|folder| file.starts_with(folder)) {
             continue;
         }
         let text = fs::read_to_string(&path).unwrap();

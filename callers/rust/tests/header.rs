@@ -124,10 +124,10 @@ fn every_exported_struct_is_declared() {
         ("sheet", "Span"),
         ("sheet", "Sheet"),
         ("walk", "Walk"),
-        ("export", "Opened"),
-        ("export", "Moved"),
-        ("export", "Valued"),
-        ("export", "Hedged"),
+        ("returns", "Opened"),
+        ("returns", "Moved"),
+        ("returns", "Valued"),
+        ("returns", "Hedged"),
     ];
     for (owner, name) in structs {
         let start = format!("#[repr(C)]\npub struct {name} {{");
