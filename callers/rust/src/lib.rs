@@ -65,7 +65,7 @@ pub use walk::{Value, Walk};
 /// Each hands back the walk that it was given, moved if it was accepted. The
 /// caller keeps walk and rows together: from an open on, the same sheet is
 /// brought, and the rows as the last call left them. Rows are the caller's
-/// own memory: no register is asked when he reads them himself.
+/// own memory: no register is asked where they are read without a call.
 pub mod lent {
     pub use crate::archive::{
         back, deck_room, forward, hedge_ratio, open, run_deck, run_on, value,
