@@ -9,6 +9,10 @@ int main(void)
     /* One byte more than a deck may have, so that a longer one is seen as such. */
     static uint8_t deck[LAVROUDEM_MAX_DECK + 1];
     const size_t length = fread(deck, 1, sizeof deck, stdin);
+    if (ferror(stdin)) {
+        fputs("the deck can't be read\n", stderr);
+        return EXIT_FAILURE;
+    }
 
     const size_t room = lavroudem_deck_room(length);
     uint8_t *listing = malloc(room);
@@ -20,5 +24,10 @@ int main(void)
     const size_t printed = lavroudem_run_deck(deck, length, listing, room);
     const size_t written = fwrite(listing, 1, printed, stdout);
     free(listing);
-    return written == printed ? EXIT_SUCCESS : EXIT_FAILURE;
+    /* What is still in a buffer is not yet written. */
+    if (written != printed || fflush(stdout) != 0) {
+        fputs("output lost\n", stderr);
+        return EXIT_FAILURE;
+    }
+    return EXIT_SUCCESS;
 }

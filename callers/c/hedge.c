@@ -92,6 +92,16 @@ static void print_default_counts(const struct desk *desk)
     }
 }
 
+/* Whether all that was printed is out, also what stood in a buffer. */
+static int told(void)
+{
+    if (fflush(stdout) != 0 || ferror(stdout)) {
+        fputs("output lost\n", stderr);
+        return EXIT_FAILURE;
+    }
+    return EXIT_SUCCESS;
+}
+
 int main(void)
 {
     struct desk desk = {
@@ -125,5 +135,5 @@ int main(void)
         lavroudem_value(desk.walk, SHEET(&desk), ROWS(&desk), 0, 0);
     printf("value of a withdrawn sheet: refusal %u, %s\n",
         (unsigned)late.refusal, lavroudem_word(late.refusal));
-    return EXIT_SUCCESS;
+    return told();
 }

@@ -1,7 +1,7 @@
 /*
  * Lavroudem for C and C++: values tranches of a pool of credits on a tree of
- * default counts. The functions stand in libexport.a, which `rt staticlib
- * export` writes, for 64-bit x86 Linux.
+ * default counts. The functions stand in liblavroudem.a, a copy of the
+ * libexport.a that `rt staticlib export` writes, for 64-bit x86 Linux.
  *
  * What holds of every call:
  *
@@ -44,6 +44,28 @@
 extern "C" {
 #endif
 
+/* ---- version */
+
+/*
+ * Of this header, raised when a call, a struct or a number in it changes. An
+ * archive of another version is not linked: `lavroudem_version_2`, which the
+ * archive of this version alone has, is named by whatever includes this header.
+ * `lavroudem_version` answers the archive's version.
+ */
+#define LAVROUDEM_VERSION 2
+uint64_t lavroudem_version(void);
+uint64_t lavroudem_version_2(void);
+
+#if defined(__has_attribute)
+#if __has_attribute(retain)
+#define LAVROUDEM_STAYS __attribute__((unused, used, retain))
+#endif
+#endif
+#ifndef LAVROUDEM_STAYS
+#define LAVROUDEM_STAYS __attribute__((unused, used))
+#endif
+LAVROUDEM_STAYS static uint64_t (*const lavroudem_linked_version)(void) = lavroudem_version_2;
+
 /* ---- limits */
 
 #define LAVROUDEM_ONE 1000000000
@@ -63,6 +85,22 @@ extern "C" {
  * LAVROUDEM_UNISSUED in every byte. All bytes but the first two below mean
  * withdrawn; the third is what a withdrawal leaves. Issue and withdraw write
  * the one byte of their number, and only clear bits of it.
+ *
+ * A call writes the memory that it is lent, and no more. To keep a register in
+ * a file, so that a withdrawn number stays withdrawn over a power loss:
+ *
+ * - lock the file, and keep it locked as long as the register is in use: of two
+ *   users, each with a copy, one would show what the other has withdrawn;
+ * - take a file of another length, or none, as an error, never as blank;
+ * - after an accepted issue or withdraw write the byte of its number, and no
+ *   other, to its place in the file, and force it to the disk (fdatasync);
+ * - believe the answer, and show it, only then. If a write or a sync fails,
+ *   what the disk holds is unknown: stop, and open the register anew. There,
+ *   write all bytes as they were read, and force them, before believing them.
+ *
+ * kept.c is an example. What is assumed of the disk: where the power fails in
+ * such a write, each bit that it should clear is found cleared or not, and all
+ * other bits of the file as they were.
  */
 #define LAVROUDEM_REGISTER_LENGTH 256
 #define LAVROUDEM_UNISSUED 0xFF
@@ -306,6 +344,17 @@ size_t lavroudem_deck_room(size_t deck_length);
  */
 #define LAVROUDEM_NO_ROOM SIZE_MAX
 size_t lavroudem_run_deck(const uint8_t *deck, size_t deck_length, uint8_t *out, size_t out_length);
+
+/*
+ * The same on a register of any length, which is left as the deck leaves it.
+ * Without room the register keeps every byte too. A register that is kept is
+ * lent as a copy: then each line `issue 0` and `withdraw 0` of the listing is
+ * one write, in their order, on the disk before the line is shown.
+ */
+size_t lavroudem_run_on(
+    const uint8_t *deck, size_t deck_length,
+    uint8_t *register_bytes, size_t register_length,
+    uint8_t *out, size_t out_length);
 
 /* ---- the layout of the archive, in bytes */
 

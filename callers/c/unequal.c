@@ -106,6 +106,16 @@ static void walk_to_root(struct desk *desk)
     }
 }
 
+/* Whether all that was printed is out, also what stood in a buffer. */
+static int told(void)
+{
+    if (fflush(stdout) != 0 || ferror(stdout)) {
+        fputs("output lost\n", stderr);
+        return EXIT_FAILURE;
+    }
+    return EXIT_SUCCESS;
+}
+
 int main(void)
 {
     struct desk desk = {.sheet.pool = {NAMES, STEPS, TRANCHES, 400000000, NUMBER}};
@@ -121,5 +131,5 @@ int main(void)
     for (size_t steps = 0; steps <= STEPS; steps++) {
         print_default_counts(&desk, steps);
     }
-    return EXIT_SUCCESS;
+    return told();
 }

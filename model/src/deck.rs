@@ -69,12 +69,12 @@ struct Program {
 }
 
 impl Program {
-    fn new(calls: Calls) -> Program {
+    fn new(calls: Calls, register: &[u8]) -> Program {
         Program {
             calls,
             has_pool: false,
             sheet: empty_sheet(),
-            register: register::blank(),
+            register: register.to_vec(),
             walk: Walk::fresh(),
             default_row: vec![0; ROW_ROOM],
             premium_row: vec![0; ROW_ROOM],
@@ -111,10 +111,22 @@ pub fn listing(deck: &[u8]) -> Vec<u8> {
 
 /// The same by other calls.
 pub fn listing_by(calls: Calls, deck: &[u8]) -> Vec<u8> {
+    run_on_by(calls, deck, &register::blank()).0
+}
+
+/// Runs a deck on a register that was kept, of any length: all that it
+/// prints, and the register that it leaves. A deck has no check of its own
+/// for the register; each call that it makes is lent it, and has.
+pub fn run_on(deck: &[u8], register: &[u8]) -> (Vec<u8>, Vec<u8>) {
+    run_on_by(CALLS, deck, register)
+}
+
+fn run_on_by(calls: Calls, deck: &[u8], register: &[u8]) -> (Vec<u8>, Vec<u8>) {
+    let mut program = Program::new(calls, register);
     if deck.len() > MAX_DECK {
-        return deck_line(Refusal::TooMany, MAX_DECK).into_bytes();
+        let line = deck_line(Refusal::TooMany, MAX_DECK);
+        return (line.into_bytes(), program.register);
     }
-    let mut program = Program::new(calls);
     let mut printed = String::new();
     let mut offset = 0;
     while offset < deck.len() {
@@ -129,7 +141,7 @@ pub fn listing_by(calls: Calls, deck: &[u8]) -> Vec<u8> {
             }
         }
     }
-    printed.into_bytes()
+    (printed.into_bytes(), program.register)
 }
 
 /// Runs the command at the front of `deck`. Answers how many bytes it took

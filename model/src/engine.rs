@@ -7,7 +7,7 @@ use crate::sheet::Sheet;
 use crate::walk::{Value, Walk};
 use lavroudem::{lent, Lists, Pool};
 
-pub use lavroudem::lent::{deck_room, run_deck};
+pub use lavroudem::lent::{deck_room, run_deck, run_on};
 
 /// The engine's calls. Each copies the sheet; a program that counts its time
 /// makes it once, by [`lend`].

@@ -27,7 +27,7 @@ impl Random {
 
     /// Holds in one of `n` draws.
     pub fn one_in(&mut self, n: u64) -> bool {
-        self.draw() % n == 0
+        self.draw().is_multiple_of(n)
     }
 
     /// Below `n`.

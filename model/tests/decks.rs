@@ -1,9 +1,10 @@
 //! The proved engine beside the model on whole decks: the listings must be
-//! equal to the letter.
+//! equal to the letter, and so must be the registers that they leave.
 #![cfg(feature = "engine")]
 
-use lavroudem_model::deck::{listing, MAX_DECK};
+use lavroudem_model::deck::{listing, run_on, MAX_DECK};
 use lavroudem_model::random::Random;
+use lavroudem_model::register::{self, LIVE, UNISSUED, WITHDRAWN};
 use lavroudem_model::{decks, engine};
 use std::collections::BTreeMap;
 
@@ -104,4 +105,89 @@ fn too_little_room_prints_nothing() {
     let mut out = vec![0xEE; engine::deck_room(deck.len()) - 1];
     assert_eq!(engine::run_deck(&deck, &mut out), None);
     assert!(out.iter().all(|&byte| byte == 0xEE));
+}
+
+/// Any bytes, and now and then another length than a register has.
+fn random_register(random: &mut Random) -> Vec<u8> {
+    let mut register = register::blank();
+    for byte in &mut register {
+        *byte = [UNISSUED, UNISSUED, LIVE, WITHDRAWN, random.draw() as u8][random.below(5)];
+    }
+    if random.one_in(10) {
+        register.resize([0, 1, 255, 257, 1_000][random.below(5)], LIVE);
+    }
+    register
+}
+
+/// The engine on a register, its listing and what it leaves.
+fn engine_on(deck: &[u8], register: &[u8], out: &mut [u8]) -> (Vec<u8>, Vec<u8>) {
+    let mut left = register.to_vec();
+    let printed = engine::run_on(deck, &mut left, out).expect("no room");
+    (printed.to_vec(), left)
+}
+
+#[test]
+fn random_decks_on_random_registers() {
+    let mut random = Random::new(0xDEC_0004);
+    let mut out = out();
+    let (mut shown, mut written) = (0, 0);
+    for _ in 0..6_000 {
+        let register = random_register(&mut random);
+        let deck = decks::any(&mut random);
+        let expected = run_on(&deck, &register);
+        assert_eq!(
+            engine_on(&deck, &register, &mut out),
+            expected,
+            "{deck:02X?}"
+        );
+        shown += usize::from(String::from_utf8_lossy(&expected.0).contains("value 0 "));
+        written += usize::from(expected.1 != register);
+    }
+    assert!(shown > 300, "{shown}");
+    assert!(written > 300, "{written}");
+}
+
+#[test]
+fn longest_and_oversized_decks_on_random_registers() {
+    let mut random = Random::new(0xDEC_0005);
+    let mut out = out();
+    for turn in 0..100 {
+        let register = random_register(&mut random);
+        let deck = match turn {
+            0..3 => decks::longest(&mut random),
+            _ => decks::oversized(&mut random),
+        };
+        let expected = run_on(&deck, &register);
+        assert_eq!(engine_on(&deck, &register, &mut out), expected);
+    }
+}
+
+/// Runs one after the other on one register, each from what the last left.
+#[test]
+fn a_register_through_many_decks() {
+    let mut random = Random::new(0xDEC_0006);
+    let mut out = out();
+    let mut register = register::blank();
+    for _ in 0..2_000 {
+        let deck = decks::any(&mut random);
+        let expected = run_on(&deck, &register);
+        assert_eq!(
+            engine_on(&deck, &register, &mut out),
+            expected,
+            "{deck:02X?}"
+        );
+        register = expected.1;
+    }
+    let withdrawn = register.iter().filter(|&&byte| byte == WITHDRAWN).count();
+    assert!(withdrawn > 50, "{withdrawn}");
+}
+
+#[test]
+fn too_little_room_leaves_register_and_room() {
+    let deck = [0x06, 7, 0x08];
+    let mut register = register::blank();
+    let mut out = vec![0xEE; engine::deck_room(deck.len()) - 1];
+    assert_eq!(engine::run_on(&deck, &mut register, &mut out), None);
+    assert!(out.iter().all(|&byte| byte == 0xEE));
+    assert_eq!(register, register::blank());
 }

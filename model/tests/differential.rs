@@ -348,8 +348,8 @@ fn open_walks() {
             let (number, _) = ask(&mut desk, Back, &mut tally);
             assert_eq!(moved.map_or_else(|refusal| refusal.number(), |_| 0), number);
             assert_eq!(own.position(), desk.walk.position);
-            assert_eq!(own.defaults(), desk.default_row);
-            assert_eq!(own.premiums(), desk.premium_row);
+            assert_eq!(own.defaults(&desk.register).unwrap(), desk.default_row);
+            assert_eq!(own.premiums(&desk.register).unwrap(), desk.premium_row);
             same_figures(&own, &mut desk, &mut tally);
         }
     }

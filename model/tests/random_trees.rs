@@ -323,7 +323,7 @@ fn search_finds_the_first_entry_over_its_ceiling() {
                 let here = place(sheet, tranche, count);
                 soiled_default.default_row[here] += 1;
                 soiled_premium.premium_row[here] += 1;
-                if here % 2 == 0 {
+                if here.is_multiple_of(2) {
                     soiled_in_turn.default_row[here] += 1;
                 } else {
                     soiled_in_turn.premium_row[here] += 1;

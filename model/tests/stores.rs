@@ -40,7 +40,7 @@ const JUDGES: [&str; 2] = [
 ];
 
 /// The others that may write a register, and the calls that they hand it to.
-const HANDS_ON: [(&str, &[&str]); 8] = [
+const HANDS_ON: [(&str, &[&str]); 10] = [
     (
         "export/src/lib.rt: lavroudem_issue",
         &["register::issue(register)"],
@@ -69,16 +69,21 @@ const HANDS_ON: [(&str, &[&str]); 8] = [
         "interpreter/src/lib.rt: interpret",
         &["execution::execute(register)"],
     ),
+    (
+        "deck/src/lib.rt: run_on",
+        &["interpreter::interpret(register)"],
+    ),
+    (
+        "export/src/lib.rt: lavroudem_run_on",
+        &["deck::run_on(register)"],
+    ),
 ];
 
 /// The one function of the engine with a register of its own.
-const OWNS: (&str, &str) = (
-    "deck/src/lib.rt: run",
-    "interpreter::interpret(&mut register)",
-);
+const OWNS: (&str, &str) = ("deck/src/lib.rt: run", "run_on(&mut register)");
 
 /// The trials are a caller, and make up registers of their own.
-const TRIALS: &str = "trials/";
+const TRIALS: [&str; 2] = ["trial/", "trials/"];
 
 // ---- the source, as words
 
@@ -211,7 +216,7 @@ fn functions() -> Vec<Function> {
     let mut found = Vec::new();
     for path in sources() {
         let file = path.strip_prefix(crates()).unwrap().to_str().unwrap();
-        if file.starts_with(TRIALS) {
+        if TRIALS.iter().any(|folder| file.starts_with(folder)) {
             continue;
         }
         let text = fs::read_to_string(&path).unwrap();

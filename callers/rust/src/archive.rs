@@ -8,6 +8,8 @@
 use crate::refusal::Refusal;
 use crate::sheet::{Pool, Sheet};
 use crate::walk::{Value, Walk};
+use crate::VERSION;
+use std::sync::Once;
 
 /// Where a list stands among the numbers of a sheet. One that reaches past
 /// their end is a shorter list.
@@ -63,6 +65,7 @@ struct Hedged {
 }
 
 extern "C" {
+    fn lavroudem_version() -> u64;
     fn lavroudem_issue(register: *mut u8, register_length: usize, number: u8) -> u8;
     fn lavroudem_withdraw(register: *mut u8, register_length: usize, number: u8) -> u8;
     fn lavroudem_open(
@@ -135,6 +138,30 @@ extern "C" {
         out: *mut u8,
         out_length: usize,
     ) -> usize;
+    fn lavroudem_run_on(
+        deck: *const u8,
+        deck_length: usize,
+        register: *mut u8,
+        register_length: usize,
+        out: *mut u8,
+        out_length: usize,
+    ) -> usize;
+}
+
+/// Before the first call: an archive of another version might take its
+/// arguments otherwise. One that has no version is not linked at all.
+#[inline]
+fn same_version() {
+    static CHECKED: Once = Once::new();
+    // SAFETY: it takes nothing and answers a constant.
+    CHECKED.call_once(|| expect_version(unsafe { lavroudem_version() }));
+}
+
+fn expect_version(found: u64) {
+    assert_eq!(
+        found, VERSION,
+        "the archive (left) and the crate lavroudem (right) are of different versions"
+    );
 }
 
 /// The figures of an accepted call, or the refusal.
@@ -150,6 +177,7 @@ fn answer<T>(refusal: u8, figures: T) -> Result<T, Refusal> {
 /// 2, 9 and 17.
 #[inline]
 pub fn issue(register: &mut [u8], number: u8) -> Result<(), Refusal> {
+    same_version();
     // SAFETY: pointer and length are those of one slice, lent to be written.
     let refusal = unsafe { lavroudem_issue(register.as_mut_ptr(), register.len(), number) };
     answer(refusal, ())
@@ -159,6 +187,7 @@ pub fn issue(register: &mut [u8], number: u8) -> Result<(), Refusal> {
 /// 9 and 10.
 #[inline]
 pub fn withdraw(register: &mut [u8], number: u8) -> Result<(), Refusal> {
+    same_version();
     // SAFETY: pointer and length are those of one slice, lent to be written.
     let refusal = unsafe { lavroudem_withdraw(register.as_mut_ptr(), register.len(), number) };
     answer(refusal, ())
@@ -174,6 +203,7 @@ pub fn open(
     defaults: &mut [u64],
     premiums: &mut [u64],
 ) -> (Walk, Result<(), Refusal>) {
+    same_version();
     // SAFETY: each pointer and length are those of one slice, and only the
     // two rows are written, which are lent for that and so overlap nothing.
     let opened = unsafe {
@@ -204,6 +234,7 @@ pub fn back(
     premiums: &mut [u64],
     steps: usize,
 ) -> (Walk, Result<usize, Refusal>) {
+    same_version();
     // SAFETY: as in `open`.
     let moved = unsafe {
         lavroudem_back(
@@ -235,6 +266,7 @@ pub fn value(
     tranche: usize,
     count: usize,
 ) -> (Walk, Result<Value, Refusal>) {
+    same_version();
     // SAFETY: each pointer and length are those of one slice; all are read.
     let valued = unsafe {
         lavroudem_value(
@@ -273,6 +305,7 @@ pub fn hedge_ratio(
     tranche: usize,
     count: usize,
 ) -> (Walk, Result<i64, Refusal>) {
+    same_version();
     // SAFETY: as in `value`.
     let hedged = unsafe {
         lavroudem_hedge_ratio(
@@ -302,6 +335,7 @@ pub fn forward(
     row: &mut [u64],
     steps: usize,
 ) -> Result<(), Refusal> {
+    same_version();
     // SAFETY: as in `open`; only the row is written.
     let refusal = unsafe {
         lavroudem_forward(
@@ -321,6 +355,7 @@ pub fn forward(
 /// The bytes that must be lent for the listing of a deck of so many bytes.
 #[inline]
 pub fn deck_room(deck_length: usize) -> usize {
+    same_version();
     // SAFETY: it takes a number and reads nothing else.
     unsafe { lavroudem_deck_room(deck_length) }
 }
@@ -330,11 +365,36 @@ pub fn deck_room(deck_length: usize) -> usize {
 /// given, where `out` is shorter than the room of the deck.
 #[inline]
 pub fn run_deck<'a>(deck: &[u8], out: &'a mut [u8]) -> Option<&'a [u8]> {
+    same_version();
     // SAFETY: each pointer and length are those of one slice, and only `out`
     // is written, which is lent for that and so overlaps nothing.
     let printed =
         unsafe { lavroudem_run_deck(deck.as_ptr(), deck.len(), out.as_mut_ptr(), out.len()) };
     // No room is the largest number, beyond any slice.
+    out.get(..printed)
+}
+
+/// Runs a deck on a register of any length, writes its listing to the start
+/// of `out` and the register that the deck leaves in place of the one given;
+/// gives the listing. Nothing is written, and none given, where `out` is
+/// shorter than the room of the deck.
+#[inline]
+pub fn run_on<'a>(deck: &[u8], register: &mut [u8], out: &'a mut [u8]) -> Option<&'a [u8]> {
+    same_version();
+    // SAFETY: each pointer and length are those of one slice, and only the
+    // register and `out` are written, which are lent for that and so overlap
+    // nothing.
+    let printed = unsafe {
+        lavroudem_run_on(
+            deck.as_ptr(),
+            deck.len(),
+            register.as_mut_ptr(),
+            register.len(),
+            out.as_mut_ptr(),
+            out.len(),
+        )
+    };
+    // As in `run_deck`.
     out.get(..printed)
 }
 

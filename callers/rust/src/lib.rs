@@ -38,20 +38,23 @@
 //! is lent and names the first fault, and a refused call changes nothing.
 //!
 //! A [`Sheet`] keeps its numbers. [`Sheet::open`] gives an [`OpenWalk`], which
-//! keeps the sheet, the walk and its rows together. The module [`lent`] has the calls as the engine has
-//! them, for programs that keep their own rows.
+//! keeps the sheet, the walk and its rows together. A [`KeptRegister`] keeps
+//! the register in a file, over a power loss too. The module [`lent`] has the
+//! calls as the engine has them, for programs that keep their own rows.
 //!
 //! Units: money is in billionths of the pool; recovery, hazards and discounts
 //! in billionths; accruals in billionths of a year; coupons in thousandths of
 //! a basis point a year; hedge ratios in millionths.
 
 mod archive;
+mod kept;
 mod open_walk;
 mod refusal;
 mod sheet;
 mod walk;
 
 pub use archive::{issue, withdraw};
+pub use kept::{KeptError, KeptRegister, RegisterFile, RegisterStore};
 pub use open_walk::OpenWalk;
 pub use refusal::Refusal;
 pub use sheet::{Lists, Pool, Sheet};
@@ -61,10 +64,17 @@ pub use walk::{Value, Walk};
 ///
 /// Each hands back the walk that it was given, moved if it was accepted. The
 /// caller keeps walk and rows together: from an open on, the same sheet is
-/// brought, and the rows as the last call left them.
+/// brought, and the rows as the last call left them. Rows are the caller's
+/// own memory: no register is asked where they are read without a call.
 pub mod lent {
-    pub use crate::archive::{back, deck_room, forward, hedge_ratio, open, run_deck, value};
+    pub use crate::archive::{
+        back, deck_room, forward, hedge_ratio, open, run_deck, run_on, value,
+    };
 }
+
+/// The version of the archive that this crate is written for, and of its C
+/// header. The first call panics on an archive of another one.
+pub const VERSION: u64 = 2;
 
 /// The whole pool in units; also the 1 of recovery, hazards and discounts.
 pub const ONE: u64 = 1_000_000_000;
@@ -89,7 +99,8 @@ pub const LIVE: u8 = 0xA5;
 pub const WITHDRAWN: u8 = 0x00;
 
 /// A register of which no number is issued. A real one is kept over a power
-/// loss; [`issue`] and [`withdraw`] write one byte of it.
+/// loss, as [`KeptRegister`] does; [`issue`] and [`withdraw`] write one byte of
+/// it.
 pub const BLANK_REGISTER: [u8; REGISTER_LENGTH] = [UNISSUED; REGISTER_LENGTH];
 
 /// Runs a deck on a blank register of its own and gives its listing.
@@ -101,6 +112,23 @@ pub const BLANK_REGISTER: [u8; REGISTER_LENGTH] = [UNISSUED; REGISTER_LENGTH];
 pub fn run_deck(deck: &[u8]) -> Vec<u8> {
     let mut out = vec![0; lent::deck_room(deck.len())];
     let listing = lent::run_deck(deck, &mut out);
+    let length = listing.expect("the room that was asked for").len();
+    out.truncate(length);
+    out
+}
+
+/// Runs a deck on a register, of any length, and gives its listing. The
+/// register is left as the deck leaves it, in memory alone;
+/// [`KeptRegister::run_deck`] writes one that is kept.
+///
+/// ```
+/// let mut register = lavroudem::BLANK_REGISTER;
+/// assert_eq!(lavroudem::run_on(&[0x06, 7], &mut register), b"issue 0\n");
+/// assert_eq!(lavroudem::run_on(&[0x06, 7], &mut register), b"issue 17\n");
+/// ```
+pub fn run_on(deck: &[u8], register: &mut [u8]) -> Vec<u8> {
+    let mut out = vec![0; lent::deck_room(deck.len())];
+    let listing = lent::run_on(deck, register, &mut out);
     let length = listing.expect("the room that was asked for").len();
     out.truncate(length);
     out

@@ -4,11 +4,15 @@ use crate::lent;
 use crate::refusal::Refusal;
 use crate::sheet::Sheet;
 use crate::walk::{Value, Walk};
+use std::fmt;
 
 /// A walk that was opened, with its sheet and rows, so that none of them can
 /// be exchanged on the way. The register is brought to each call: a number
-/// may be withdrawn at any time.
-#[derive(Clone, Debug, PartialEq, Eq)]
+/// may be withdrawn at any time, and then no figure is shown any more.
+///
+/// Two walks are equal if they are of equal sheets and stand at the same
+/// step; the figures follow from that.
+#[derive(Clone)]
 pub struct OpenWalk<'a> {
     sheet: &'a Sheet,
     walk: Walk,
@@ -90,13 +94,51 @@ impl<'a> OpenWalk<'a> {
     }
 
     /// The default legs, tranche by tranche, the index last, each by default
-    /// count from 0 to names.
-    pub fn defaults(&self) -> &[u64] {
-        &self.defaults
+    /// count from 0 to names. Refusals 2, 9 and 10, as a value call has them.
+    ///
+    /// The register is borrowed with the figures, so that their number is not
+    /// withdrawn while they are looked at:
+    ///
+    /// ```compile_fail,E0502
+    /// fn after_withdrawal(walk: &lavroudem::OpenWalk, register: &mut [u8]) {
+    ///     let defaults = walk.defaults(register).unwrap();
+    ///     lavroudem::withdraw(register, 7).unwrap();
+    ///     println!("{defaults:?}");
+    /// }
+    /// ```
+    pub fn defaults<'b>(&'b self, register: &'b [u8]) -> Result<&'b [u64], Refusal> {
+        self.value(register, 0, 0).map(|_| &self.defaults[..])
     }
 
     /// The premium legs, in the same order.
-    pub fn premiums(&self) -> &[u64] {
-        &self.premiums
+    ///
+    /// ```compile_fail,E0502
+    /// fn after_withdrawal(walk: &lavroudem::OpenWalk, register: &mut [u8]) {
+    ///     let premiums = walk.premiums(register).unwrap();
+    ///     lavroudem::withdraw(register, 7).unwrap();
+    ///     println!("{premiums:?}");
+    /// }
+    /// ```
+    pub fn premiums<'b>(&'b self, register: &'b [u8]) -> Result<&'b [u64], Refusal> {
+        self.value(register, 0, 0).map(|_| &self.premiums[..])
+    }
+}
+
+/// No register is at hand here, so no figure of the rows is compared.
+impl PartialEq for OpenWalk<'_> {
+    fn eq(&self, other: &OpenWalk) -> bool {
+        self.sheet == other.sheet && self.walk == other.walk
+    }
+}
+
+impl Eq for OpenWalk<'_> {}
+
+/// No register is at hand here, so no figure of the rows is shown.
+impl fmt::Debug for OpenWalk<'_> {
+    fn fmt(&self, f: &mut fmt::Formatter<'_>) -> fmt::Result {
+        let mut shown = f.debug_struct("OpenWalk");
+        shown.field("number", &self.walk.number);
+        shown.field("position", &self.walk.position);
+        shown.finish_non_exhaustive()
     }
 }

@@ -6,8 +6,10 @@ use std::fmt;
 /// Makes the enum, and its numbers and words, from one table.
 macro_rules! refusals {
     ($($(#[$doc:meta])* $name:ident, $number:literal, $word:literal;)*) => {
-        /// Why a call is refused, in the order in which a call checks.
+        /// Why a call is refused, in the order in which a call checks. A
+        /// later engine may have more, so a `match` needs an arm for them.
         #[derive(Clone, Copy, Debug, PartialEq, Eq, Hash)]
+        #[non_exhaustive]
         pub enum Refusal {
             $($(#[$doc])* $name,)*
             /// A number that this crate has no name for. The engine that it

@@ -210,10 +210,70 @@ fn an_open_walk_shows_its_rows() {
     assert_eq!(walk.position(), 2);
     assert_eq!(walk.back(&register, 2), Ok(0));
     let index = walk.value(&register, 1, 0).unwrap();
-    assert_eq!(index.default_leg, walk.defaults()[3]);
-    assert_eq!(index.premium_leg, walk.premiums()[3]);
+    assert_eq!(index.default_leg, walk.defaults(&register).unwrap()[3]);
+    assert_eq!(index.premium_leg, walk.premiums(&register).unwrap()[3]);
     assert_eq!(index.net_value, 194_250_000_000_000);
     assert_eq!((walk.sheet().pool(), walk.sheet().lists()), (&POOL, LISTS));
+}
+
+/// A walk of a withdrawn number gives no figure away, by whatever way.
+#[test]
+fn an_open_walk_of_a_withdrawn_number_shows_nothing() {
+    let mut register = issued();
+    let sheet = sheet();
+    let mut walk = sheet.open(&register).unwrap();
+    walk.back(&register, 2).unwrap();
+    withdraw(&mut register, 7).unwrap();
+    for register in [&register[..], &BLANK_REGISTER, &register[1..]] {
+        let refusal = walk.value(register, 0, 0).unwrap_err();
+        assert_eq!(walk.defaults(register), Err(refusal));
+        assert_eq!(walk.premiums(register), Err(refusal));
+        assert_eq!(walk.hedge_ratio(register, 0, 0), Err(refusal));
+        assert_eq!(walk.back(register, 0), Err(refusal));
+        assert_eq!(sheet.open(register), Err(refusal));
+        assert_eq!(sheet.forward(register, 0), Err(refusal));
+    }
+}
+
+#[test]
+fn an_open_walk_is_printed_without_figures() {
+    let register = issued();
+    let sheet = sheet();
+    let mut walk = sheet.open(&register).unwrap();
+    walk.back(&register, 2).unwrap();
+    assert_eq!(
+        format!("{walk:?}"),
+        "OpenWalk { number: 7, position: 0, .. }"
+    );
+}
+
+/// Equality is that of sheet and step, from which the rows follow.
+#[test]
+fn open_walks_are_compared_by_sheet_and_step() {
+    let register = issued();
+    let sheet = sheet();
+    let equal = Sheet::new(POOL, LISTS);
+    let at_once = walked(&sheet, &register, &[2]);
+    let by_steps = walked(&equal, &register, &[1, 0, 1]);
+    assert_eq!(at_once, by_steps);
+    let figures = |walk: &OpenWalk| {
+        let defaults = walk.defaults(&register).unwrap().to_vec();
+        (defaults, walk.premiums(&register).unwrap().to_vec())
+    };
+    assert_eq!(figures(&at_once), figures(&by_steps));
+    assert_ne!(at_once, walked(&sheet, &register, &[1]));
+    // The rows do not depend on a coupon; the sheet does.
+    let coupons = &[1_000_000, 500_001];
+    let other = Sheet::new(POOL, Lists { coupons, ..LISTS });
+    assert_ne!(at_once, walked(&other, &register, &[2]));
+}
+
+fn walked<'a>(sheet: &'a Sheet, register: &[u8], steps: &[usize]) -> OpenWalk<'a> {
+    let mut walk = sheet.open(register).unwrap();
+    for &steps in steps {
+        walk.back(register, steps).unwrap();
+    }
+    walk
 }
 
 #[test]
@@ -226,6 +286,8 @@ fn an_open_walk_stays_where_it_is_refused() {
     assert_eq!(walk.back(&register, 2), Err(Refusal::OutOfSteps));
     assert_eq!(walk.back(&BLANK_REGISTER, 1), Err(Refusal::Unissued));
     assert_eq!(walk, before);
+    assert_eq!(walk.defaults(&register), before.defaults(&register));
+    assert_eq!(walk.premiums(&register), before.premiums(&register));
     assert_eq!(walk.value(&register, 2, 0), Err(Refusal::OffTree));
     assert_eq!(walk.hedge_ratio(&register, 0, 2), Err(Refusal::OffTree));
 }
@@ -261,9 +323,34 @@ fn the_worked_deck() {
 fn a_listing_without_room() {
     let room = lent::deck_room(WORKED_DECK.len());
     let mut out = vec![0xEE; room];
+    let mut register = BLANK_REGISTER;
     assert_eq!(lent::run_deck(WORKED_DECK, &mut out[1..]), None);
+    assert_eq!(
+        lent::run_on(WORKED_DECK, &mut register, &mut out[1..]),
+        None
+    );
     assert!(out.iter().all(|&byte| byte == 0xEE));
+    assert_eq!(register, BLANK_REGISTER);
     assert_eq!(lent::run_deck(WORKED_DECK, &mut out), Some(WORKED_LISTING));
+}
+
+/// The deck withdraws its own number, so a second run shows nothing.
+#[test]
+fn the_worked_deck_on_a_register() {
+    let mut register = BLANK_REGISTER;
+    assert_eq!(run_on(WORKED_DECK, &mut register), WORKED_LISTING);
+    let mut left = BLANK_REGISTER;
+    left[7] = WITHDRAWN;
+    assert_eq!(register, left);
+    let refused = "issue 9\nopen 9\nback 9\nvalue 9\nvalue 9\ndelta 9\nforward 9\n\
+                   withdraw 9\nvalue 9\n";
+    assert_eq!(run_on(WORKED_DECK, &mut register), refused.as_bytes());
+    assert_eq!(register, left);
+    // A register of another length is refused by every call of the deck.
+    let refused = refused.replace('9', "2");
+    assert_eq!(run_on(WORKED_DECK, &mut left[1..]), refused.as_bytes());
+    assert_eq!(run_on(WORKED_DECK, &mut []), refused.as_bytes());
+    assert_eq!(register, left);
 }
 
 /// The header promises that a call needs less than 256 kB of stack. A deck

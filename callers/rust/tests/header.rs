@@ -10,6 +10,7 @@ const HEADER: &str = include_str!("../../c/lavroudem.h");
 #[test]
 fn limits_and_bytes_are_the_same() {
     let numbers = [
+        ("VERSION", VERSION),
         ("ONE", ONE),
         ("MAX_NAMES", MAX_NAMES as u64),
         ("MAX_STEPS", MAX_STEPS as u64),
@@ -68,6 +69,15 @@ fn screaming(name: &str) -> String {
     text
 }
 
+/// An archive of another version has not the function that the header names.
+#[test]
+fn the_version_is_linked() {
+    let name = format!("lavroudem_version_{VERSION}");
+    assert_eq!(HEADER.matches("lavroudem_version_").count(), 3);
+    assert!(HEADER.contains(&format!("uint64_t {name}(void);")));
+    assert!(HEADER.contains(&format!("lavroudem_linked_version)(void) = {name};")));
+}
+
 /// The header's table of words, in the order of their numbers.
 #[test]
 fn words_are_the_same() {
@@ -101,7 +111,7 @@ fn every_exported_function_is_declared() {
         let declaration = declaration(function);
         assert!(header.contains(&declaration), "{declaration}");
     }
-    assert_eq!(functions.len(), 9);
+    assert_eq!(functions.len(), 10);
 }
 
 /// The structs of the exported functions, each in the crate that owns it.
@@ -114,10 +124,10 @@ fn every_exported_struct_is_declared() {
         ("sheet", "Span"),
         ("sheet", "Sheet"),
         ("walk", "Walk"),
-        ("export", "Opened"),
-        ("export", "Moved"),
-        ("export", "Valued"),
-        ("export", "Hedged"),
+        ("returns", "Opened"),
+        ("returns", "Moved"),
+        ("returns", "Valued"),
+        ("returns", "Hedged"),
     ];
     for (owner, name) in structs {
         let start = format!("#[repr(C)]\npub struct {name} {{");
@@ -202,7 +212,10 @@ fn declaration(function: &str) -> String {
     let parameters: Vec<String> = pairs
         .map(|(parameter, kind)| declared(called(name, parameter.trim()), kind.trim()))
         .collect();
-    let parameters = parameters.join(", ");
+    let mut parameters = parameters.join(", ");
+    if parameters.is_empty() {
+        parameters = "void".into();
+    }
     format!("{} {name}({parameters});", plain(answer))
 }
 

@@ -1,11 +1,13 @@
 //! Plain sheets for the trials, by shape; random ones come by seed. A desk
-//! has what the calls are lent, and edges are changes of one.
+//! has what the calls are lent, and edges are changes of one; the writes of a
+//! deck are read off its lines.
 
 // Each test file is built by itself and uses only a part of this.
 #![allow(dead_code, unused_imports)]
 
 pub mod desk;
 pub mod edges;
+pub mod writes;
 
 pub use lavroudem_model::random::Random;
 use lavroudem_model::sheet::Sheet;

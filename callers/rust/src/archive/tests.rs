@@ -74,3 +74,28 @@ fn the_figures_of_a_refused_call_are_0() {
     assert_eq!(figures, (0, 0, 0));
     assert_eq!((hedged.refusal, hedged.ratio, hedged.walk), (1, 0, walk));
 }
+
+#[test]
+fn an_archive_of_this_version_is_taken() {
+    expect_version(VERSION);
+    same_version();
+}
+
+#[test]
+#[should_panic(expected = "of different versions")]
+fn an_archive_of_another_version_is_not_taken() {
+    expect_version(VERSION + 1);
+}
+
+/// Each function that calls the archive looks at its version first.
+#[test]
+fn every_call_looks_at_the_version() {
+    let source = include_str!("../archive.rs");
+    let calls: Vec<&str> = source.split("\npub fn ").skip(1).collect();
+    for call in &calls {
+        let (_, body) = call.split_once("{\n").unwrap();
+        let name = call.split(['(', '<']).next().unwrap();
+        assert!(body.starts_with("    same_version();\n"), "{name}");
+    }
+    assert_eq!(calls.len(), 10);
+}
