@@ -111,7 +111,7 @@ fn every_exported_function_is_declared() {
         let declaration = declaration(function);
         assert!(header.contains(&declaration), "{declaration}");
     }
-    assert_eq!(functions.len(), 10);
+    assert_eq!(functions.len(), 12);
 }
 
 /// The structs of the exported functions, each in the crate that owns it.
