@@ -16,6 +16,13 @@ use Rattle.figures.proofs.Places.{place-below, node-place}
 use Rattle.figures.proofs.replies.worth_at.Statement.{statement}
 use Rattle.figures.proofs.replies.worth_at.Tie as tie
 
+-- the places: the start, seen where the number of names is read, and that, seen where the coupon is
+abbrev start : tie.After-struct-known → tie.Start
+start n = n .before .before .before .before
+
+abbrev names-read : tie.After-number-at → tie.After-struct-known
+names-read p = p .before .before .before
+
 abbrev sheet : tie.Start → Brought
 sheet s = broughtIn (s .args .sheet) (s .args .numbers .now)
 
@@ -39,35 +46,35 @@ add-place : tie.Need-add-place
 add-place c = search needs
 
 mul-place : tie.Need-mul-place
-mul-place c = let s = c .before .before .before .before in omega (arith, below s, few s)
+mul-place c = let s = start c in omega (arith, below s, few s)
 
 add-place-2 : tie.Need-add-place-2
-add-place-2 c = let s = c .before .before .before .before in omega (arith, below s, few s)
+add-place-2 c = let s = start c in omega (arith, below s, few s)
 
 mul-d : tie.Need-mul-d
-mul-d c = let s = c .before .before .before .before in omega (arith, below s, few s)
+mul-d c = let s = start c in omega (arith, below s, few s)
 
 shared-slice-read-d : tie.Need-shared-slice-read-d
-shared-slice-read-d c = let s = c .before .before .before .before .before in omega (arith, below s, s .pre .default-size)
+shared-slice-read-d c = let s = start (c .before) in omega (arith, below s, s .pre .default-size)
 
 mul-a : tie.Need-mul-a
-mul-a c = let s = c .before .before .before .before .before in omega (arith, below s, few s)
+mul-a c = let s = start (c .before) in omega (arith, below s, few s)
 
 shared-slice-read-a : tie.Need-shared-slice-read-a
-shared-slice-read-a c = let s = c .before .before .before .before .before .before in omega (arith, below s, s .pre .premium-size)
+shared-slice-read-a c = let s = start (c .before .before) in omega (arith, below s, s .pre .premium-size)
 
 number-at-requires : tie.Need-number-at-requires
-number-at-requires c κs = let s = c .before .before .before .before .before .before in omega (arith, s .pre .tranche, s .pre .coupons)
+number-at-requires c κs = let s = start (c .before .before) in omega (arith, s .pre .tranche, s .pre .coupons)
 
 net-value-requires : tie.Need-net-value-requires
 net-value-requires c κs =
-    let s = c .before .before .before .before .before .before .before in
+    let s = start (names-read c) in
     (omega (arith, default-here s, s .pre .default), omega (arith, c .number-at .ensures, s .pre .coupon), omega (arith, premium-here s, s .pre .premium))
 
 returns : tie.Need-returns
 unfolding worth
 returns c =
-    let s = c .before .before .before .before .before .before .before .before in
+    let s = start (names-read (c .before)) in
     let w = toZ-ofZ w64 (c .net-value .result) (sfits-of (c .net-value .ok)) ∙ c .net-value .ensures in
     (λ i. Worth (getD (s .args .defaults .now) (place s) 0) (getD (s .args .premiums .now) (place s) 0) (w i))
     ∙ (λ i. Worth (default-here s i) (premium-here s i) (netValue (default-here s i) (c .before .number-at .ensures i) (premium-here s i)))

@@ -12,6 +12,16 @@ use Rattle.walk.proofs.Contracts.{open-promised}
 use Rattle.walk.proofs.Walk.open.Statement.{statement}
 use Rattle.walk.proofs.Walk.open.Tie as tie
 
+-- the sheet and the rows that are lent
+abbrev sheet : tie.Start → Brought
+sheet s = broughtIn (s .args .sheet) (s .args .numbers .now)
+
+abbrev rows : tie.Start → Rows
+rows s = rowsOf (s .args .defaults .now) (s .args .premiums .now)
+
+abbrev start : tie.After-to-ten → tie.Start
+start p = p .before .before .before .before .before .before .before .before
+
 rows-differ-requires : tie.Need-rows-differ-requires
 rows-differ-requires c κs = search needs
 
@@ -26,16 +36,6 @@ same-length c = search needs
 
 same-length-2 : tie.Need-same-length-2
 same-length-2 c = search needs
-
--- the sheet and the rows that are lent
-abbrev sheet : tie.Start → Brought
-sheet s = broughtIn (s .args .sheet) (s .args .numbers .now)
-
-abbrev rows : tie.Start → Rows
-rows s = rowsOf (s .args .defaults .now) (s .args .premiums .now)
-
-abbrev start : tie.After-to-ten → tie.Start
-start p = p .before .before .before .before .before .before .before .before
 
 told : (p : tie.After-to-ten) → poolBad (sheet (start p) .sheet) ≡ false → p .before .rows-differ .result ≡ rowsBad (sheet (start p)) (start p .args .register .now) (rows (start p))
 told p = rows-told _ _ _ _ _ _ _ _ (p .before .rows-differ .ensures)
