@@ -13,6 +13,8 @@ called =
       accepted = refl;
       refused = refl;
       no-pool = refl;
+      mixed = refl;
+      one-step = refl;
       empty = refl;
     }
 
