@@ -15,6 +15,8 @@ called =
       accepted = refl;
       refused = refl;
       no-pool = refl;
+      mixed = refl;
+      one-step = refl;
       empty = refl;
     }
 

@@ -5,7 +5,7 @@ use mathlib.Core.List.{List, [], _∷_, _++_}
 use lib.ListN.{length}
 use Rattle.deck.specs.Listing.{listing}
 use Rattle.decks.specs.Calls.{workedDeck, workedListing, unevenSheet, acceptedCalls, acceptedListing, refusedCalls, refusedListing}
-use Rattle.decks.specs.Calls.{noPoolDeck, noPoolListing}
+use Rattle.decks.specs.Calls.{noPoolDeck, noPoolListing, mixedDeck, mixedListing, oneStepDeck, oneStepListing}
 use Rattle.decks.specs.Limits.{none, one, belowMillion, million, tenMillion, overTenMillion, billion, overBillion, single, coupon}
 use Rattle.decks.specs.Limits.{issueOpen, opening, opens, ratios, largestRatio, offScale, flatHedge, eightSlices, secondPool}
 use Rattle.decks.specs.Limits.{poolCutShort, secondPoolCutShort, nineCuts, tenthCut, tooManyCuts, hazardAndStep, nineCoupons}
@@ -18,6 +18,8 @@ pub record CallListings : Type 0 where
   pub accepted : listing (unevenSheet ++ acceptedCalls) ≡ acceptedListing
   pub refused : listing (unevenSheet ++ refusedCalls) ≡ refusedListing
   pub no-pool : listing noPoolDeck ≡ noPoolListing
+  pub mixed : listing mixedDeck ≡ mixedListing
+  pub one-step : listing oneStepDeck ≡ oneStepListing
   pub empty : listing [] ≡ []
 
 -- Refusals 2 to 8 by open: of the recovery, the cut, the hazard, the discount, the accrual, and the coupons of slice and index.
@@ -61,7 +63,7 @@ pub record LongListings : Type 0 where
   pub bytes : (s : List ℕ) → length s ≤ 65_535 → listing (0x00 ∷ s) ≡ unknownFirst
   pub one-byte-more : (s : List ℕ) → 65_536 ≤ length s → listing (0x00 ∷ s) ≡ oversized
 
--- All of them. The commands of a sheet stand in the order pool, cuts, hazards, steps, coupons, and before every call.
+-- All of them. But in `mixed` the commands of a sheet stand in the order pool, cuts, hazards, steps, coupons, and before every call.
 pub record DeckListings : Type 0 where
   pub called : CallListings
   pub opened : OpenListings

@@ -61,7 +61,7 @@ countSaid (Ratio z) row n k = saidOf (Ratio z)
 abbrev pub saidBeside : Said → List ℕ → ForwardResult
 saidBeside said row = record { said = said; row = row }
 
--- After 14 the row stays as the call forwardResult it. That can't be seen: the next forward starts afresh, and nothing else reads the row.
+-- After 14 the row stays as the call filled it. That can't be seen: the next forward starts afresh, and nothing else reads the row.
 unfoldable pub distributionInRow : Brought → List ℕ → List ℕ → ℕ → ℕ → ForwardResult
 distributionInRow x register row i k =
     let o = forwardInRow x register row i in saidBeside (countSaid (o .answer) (o .row) (x .sheet .names) k) (o .row)
