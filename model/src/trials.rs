@@ -5,10 +5,11 @@
 //! that follow one another, so that each refusal stands beside what is just
 //! accepted. `tests/trials.rs` holds that no number can be moved unseen.
 
+use crate::deck::{Calls, CALLS};
 use crate::refusal::Refusal;
 use crate::register::{self, LIVE, UNISSUED, WITHDRAWN};
 use crate::sheet::Sheet;
-use crate::walk::{self, row_length, Value, Walk};
+use crate::walk::{row_length, Value, Walk};
 use std::ops::RangeInclusive;
 
 /// Units in the whole pool.
@@ -455,14 +456,19 @@ fn halves() -> Vec<Edge> {
 
 /// All lines.
 pub fn listing() -> String {
+    listing_by(&CALLS)
+}
+
+/// The same by other calls, such as the engine's.
+pub fn listing_by(calls: &Calls) -> String {
     let mut text = String::new();
     for edge in edges() {
         for value in edge.values.clone() {
-            let answers = answers(&edge.at(value));
+            let answers = answers_by(calls, &edge.at(value));
             text.push_str(&format!("{}{answers}\n", edge.words(value)));
         }
     }
-    text.push_str(&register_lines());
+    text.push_str(&register_lines(calls));
     text.push_str(&cut_lines());
     text
 }
@@ -485,6 +491,10 @@ fn value_figures(value: Value) -> Vec<i128> {
 /// Open unless the walk is made up, then back, value, ratio and forward, in
 /// one line.
 pub fn answers(trial: &Trial) -> String {
+    answers_by(&CALLS, trial)
+}
+
+fn answers_by(calls: &Calls, trial: &Trial) -> String {
     let sheet = sheet(trial);
     let mut register = vec![WITHDRAWN; trial.register_lent as usize];
     register[usize::from(NUMBER)] = trial.byte as u8;
@@ -498,26 +508,26 @@ pub fn answers(trial: &Trial) -> String {
             position: trial.position as usize,
         };
     } else {
-        let (opened, open) = walk::open(walk, &sheet, &register, &mut d, &mut a);
+        let (opened, open) = (calls.open)(walk, &sheet, &register, &mut d, &mut a);
         walk = opened;
         line.push_str(&field("open", open.map(|()| vec![])));
     }
     let steps = trial.back as usize;
-    let (walk, back) = walk::back(walk, &sheet, &register, steps, &mut d, &mut a);
+    let (walk, back) = (calls.back)(walk, &sheet, &register, steps, &mut d, &mut a);
     let (tranche, count) = (trial.tranche as usize, trial.count as usize);
-    let (walk, value) = walk::value(walk, &sheet, &register, tranche, count, &d, &a);
-    let (_, ratio) = walk::hedge_ratio(walk, &sheet, &register, tranche, count, &d, &a);
+    let (walk, value) = (calls.value)(walk, &sheet, &register, tranche, count, &d, &a);
+    let (_, ratio) = (calls.hedge_ratio)(walk, &sheet, &register, tranche, count, &d, &a);
     line.push_str(&field("back", back.map(|position| vec![position as i128])));
     line.push_str(&field("value", value.map(value_figures)));
     line.push_str(&field("ratio", ratio.map(|ratio| vec![ratio])));
-    line.push_str(&forward(trial, &sheet, &register));
+    line.push_str(&forward(calls, trial, &sheet, &register));
     line
 }
 
 /// Forward with Q(0), Q(1) and Q(n), on a row that is not zero.
-fn forward(trial: &Trial, sheet: &Sheet, register: &[u8]) -> String {
+fn forward(calls: &Calls, trial: &Trial, sheet: &Sheet, register: &[u8]) -> String {
     let mut row = vec![7; length(trial.row_lent, sheet.names + 1)];
-    let answer = walk::forward(sheet, register, trial.forward as usize, &mut row);
+    let answer = (calls.forward)(sheet, register, trial.forward as usize, &mut row);
     let figures = |()| {
         [0, 1, sheet.names]
             .map(|count| i128::from(row[count]))
@@ -599,15 +609,15 @@ fn rows(trial: &Trial, sheet: &Sheet) -> (Vec<u64>, Vec<u64>) {
 }
 
 /// 2, 9, 10 and 17: issue and withdraw, with the byte that each leaves.
-fn register_lines() -> String {
+fn register_lines(calls: &Calls) -> String {
     let mut text = String::new();
     let mut line = |word: &str, value: u64, length: usize, issued: u8, withdrawn: u8| {
         let mut register = vec![WITHDRAWN; length];
         register[usize::from(NUMBER)] = issued;
-        let issue = register::issue(&mut register, NUMBER);
+        let issue = (calls.issue)(&mut register, NUMBER);
         let after_issue = register[usize::from(NUMBER)];
         register[usize::from(NUMBER)] = withdrawn;
-        let withdraw = register::withdraw(&mut register, NUMBER);
+        let withdraw = (calls.withdraw)(&mut register, NUMBER);
         let after_withdraw = register[usize::from(NUMBER)];
         let number = |answer: Result<(), Refusal>| answer.err().map_or(0, Refusal::number);
         let (issue, withdraw) = (number(issue), number(withdraw));

@@ -16,6 +16,7 @@ use lavroudem_model::refusal::Refusal;
 use lavroudem_model::register::{LIVE, UNISSUED};
 use lavroudem_model::sheet::Sheet;
 use lavroudem_model::tree::{default_ceiling, place, premium_ceiling};
+use lavroudem_model::trials;
 use std::collections::BTreeMap;
 
 /// The calls with the numbers that each can answer (document 01, "Refusals
@@ -370,4 +371,11 @@ fn same_figures(own: &OpenWalk, desk: &mut Desk, tally: &mut Tally) {
     let ratio = ratio.map_or_else(number, |ratio| (0, vec![ratio.into()]));
     assert_eq!(value, ask(desk, Value, tally));
     assert_eq!(ratio, ask(desk, Ratio, tally));
+}
+
+/// Every refusal on both sides of its edge, through the archive that callers
+/// link; the engine's own program tries the same trials below it.
+#[test]
+fn trials_are_answered_alike() {
+    assert_eq!(trials::listing_by(&engine::CALLS), trials::listing());
 }

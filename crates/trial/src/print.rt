@@ -1,9 +1,7 @@
 // Words and numbers to standard output.
 use cash::magnitude;
 use libc::STDOUT_FILENO;
-use returns::Hedged;
-use returns::Moved;
-use returns::Valued;
+use walk::Answer;
 
 pub fn text(words: &[u8]) {
     io::write_all(STDOUT_FILENO, words);
@@ -40,32 +38,36 @@ pub fn answer(words: &[u8], number: u8) {
     small(number);
 }
 
-pub fn moved(r: Moved) {
-    answer(b" back", r.number);
-    if r.number == 0 {
-        count(r.position as u64);
+// The same of an answer; the number that it has.
+pub fn done(words: &[u8], a: Answer) -> u8 {
+    let number = returns::number_in(a);
+    answer(words, number);
+    number
+}
+
+pub fn moved(a: Answer) {
+    if done(b" back", a) == 0 {
+        count(returns::position_in(a) as u64);
     }
 }
 
-pub fn valued(r: Valued) {
-    answer(b" value", r.number);
-    if r.number == 0 {
-        count(r.default);
-        count(r.premium);
-        signed(r.net);
+pub fn valued(a: Answer) {
+    if done(b" value", a) == 0 {
+        count(returns::default_in(a));
+        count(returns::premium_in(a));
+        signed(returns::net_in(a));
     }
 }
 
-pub fn hedged(r: Hedged) {
-    answer(b" ratio", r.number);
-    if r.number == 0 {
-        signed(r.ratio);
+pub fn hedged(a: Answer) {
+    if done(b" ratio", a) == 0 {
+        signed(returns::ratio_in(a));
     }
 }
 
 // Q(0), Q(1) and the last of the row.
-pub fn distribution(number: u8, row: &[u64]) {
-    answer(b" forward", number);
+pub fn distribution(a: Answer, row: &[u64]) {
+    let number = done(b" forward", a);
     if row.len() < 2 {
         return;
     }

@@ -5,14 +5,6 @@ use trial::at::Trial;
 use trial::print;
 use walk::Walk;
 
-fn fresh() -> Walk {
-    Walk {
-        open: false,
-        number: 0,
-        position: 0,
-    }
-}
-
 // The walk that a trial holds.
 fn held(trial: Trial) -> Walk {
     Walk {
@@ -37,8 +29,8 @@ fn ratio(
     defaults: &[u64],
     premiums: &[u64],
 ) {
-    let r = export::lavroudem_hedge_ratio(
-        held(trial),
+    let walk = held(trial);
+    let r = walk.hedge_ratio(
         sheet,
         numbers,
         register,
@@ -47,7 +39,8 @@ fn ratio(
         at::size(trial, at::TRANCHE),
         at::size(trial, at::COUNT),
     );
-    print::hedged(r);
+    let answer = r.answer;
+    print::hedged(answer);
 }
 
 fn value(
@@ -58,8 +51,8 @@ fn value(
     defaults: &[u64],
     premiums: &[u64],
 ) {
-    let r = export::lavroudem_value(
-        held(trial),
+    let walk = held(trial);
+    let r = walk.value(
         sheet,
         numbers,
         register,
@@ -68,9 +61,11 @@ fn value(
         at::size(trial, at::TRANCHE),
         at::size(trial, at::COUNT),
     );
-    print::valued(r);
+    let answer = r.answer;
+    let left = r.walk;
+    print::valued(answer);
     ratio(
-        holding(trial, r.walk),
+        holding(trial, left),
         sheet,
         numbers,
         register,
@@ -87,8 +82,8 @@ fn back(
     defaults: &mut [u64],
     premiums: &mut [u64],
 ) {
-    let r = export::lavroudem_back(
-        held(trial),
+    let walk = held(trial);
+    let r = walk.back(
         sheet,
         numbers,
         register,
@@ -96,9 +91,11 @@ fn back(
         premiums,
         at::size(trial, at::BACK),
     );
-    print::moved(r);
+    let answer = r.answer;
+    let left = r.walk;
+    print::moved(answer);
     value(
-        holding(trial, r.walk),
+        holding(trial, left),
         sheet,
         numbers,
         register,
@@ -115,10 +112,13 @@ fn open(
     defaults: &mut [u64],
     premiums: &mut [u64],
 ) {
-    let r = export::lavroudem_open(fresh(), sheet, numbers, register, defaults, premiums);
-    print::answer(b" open", r.number);
+    let walk = Walk::fresh();
+    let r = walk.open(sheet, numbers, register, defaults, premiums);
+    let answer = r.answer;
+    let left = r.walk;
+    print::done(b" open", answer);
     back(
-        holding(trial, r.walk),
+        holding(trial, left),
         sheet,
         numbers,
         register,
@@ -145,12 +145,6 @@ pub fn walk(
 
 // Forward, with Q(0), Q(1) and the last of the row.
 pub fn forward(trial: Trial, sheet: Sheet, numbers: &[u64], register: &[u8], row: &mut [u64]) {
-    let number = export::lavroudem_forward(
-        sheet,
-        numbers,
-        register,
-        row,
-        at::size(trial, at::FORWARD),
-    );
-    print::distribution(number, row);
+    let answer = walk::forward(sheet, numbers, register, row, at::size(trial, at::FORWARD));
+    print::distribution(answer, row);
 }

@@ -8,13 +8,13 @@ use trial::words;
 fn both(place: usize, value: u64, length: usize, unissued: u64, live: u64) {
     let mut first = lent::register(unissued);
     let mut second = lent::register(live);
-    let issued = export::lavroudem_issue(lent::bytes_mut(&mut first, length), 7);
-    let withdrawn = export::lavroudem_withdraw(lent::bytes_mut(&mut second, length), 7);
+    let issued = register::issue(lent::bytes_mut(&mut first, length), 7);
+    let withdrawn = register::withdraw(lent::bytes_mut(&mut second, length), 7);
     words::of(place);
     print::count(value);
-    print::answer(b" issue", issued);
+    print::answer(b" issue", register::number_of(issued));
     print::small(first[7]);
-    print::answer(b" withdraw", withdrawn);
+    print::answer(b" withdraw", register::number_of(withdrawn));
     print::small(second[7]);
     print::end();
 }
