@@ -5,7 +5,7 @@ use mathlib.Core.Bool.{true, false}
 use mathlib.Core.List.{List, [], _∷_, _++_}
 use lib.Dec.{ltb}
 use lib.IntN.{ℤ, pos, negsuc}
-use lib.ListN.{length, take}
+use lib.ListN.{length}
 use lib.Seq.{sets}
 
 -- the digits of n in ASCII, from the leading one on, found in at most fuel divisions by ten
@@ -30,7 +30,3 @@ field x = 32 ∷ signed x
 pub record Wrote (before : List ℕ) (at : ℕ) (text after : List ℕ) (end : ℕ) : Type 0 where
   pub bytes : after ≡ sets before at text
   pub stop : end ≡ at + length text
-
--- n counts bytes at the start of xs. The second part follows from the first; with both, a function that lends `&xs[..n]` needs no proof file.
-abbrev pub Counts : ℕ → List ℕ → Type 0
-Counts n xs = (n ≤ length xs) × (n ≡ length (take n xs))

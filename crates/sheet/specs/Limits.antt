@@ -62,7 +62,7 @@ pub record Limits (x : Brought) : Type 0 where
   pub accruals : AccrualsInside (x .sheet)
   pub coupons : CouponsInside x
 
--- The part of them that losses and what is outstanding rest on: names, tranches, recovery and attachment points. ('Arithmetic and cash')
+-- The part of them that losses and what is outstanding rest on: the pool, recovery and attachment points. ('Arithmetic and cash')
 pub record TranchesWithin (x : Terms) : Type 0 where
   pub pool : PoolInside x
   pub points : PointsFit x
