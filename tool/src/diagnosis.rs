@@ -73,6 +73,12 @@ pub enum Fault {
     LastAccrual {
         step: usize,
     },
+    Stop(StopFault),
+}
+
+/// What stands where a deck stops.
+#[derive(Clone, Debug, PartialEq, Eq)]
+pub enum StopFault {
     UnknownByte(u8),
     CutCommand {
         word: &'static str,
@@ -120,16 +126,22 @@ impl fmt::Display for Fault {
             Fault::LastAccrual { step } => {
                 write!(out, "the accrual of step {step}, the last, is 0")
             }
-            Fault::UnknownByte(byte) => write!(out, "no command has the byte {byte:02X}"),
-            Fault::CutCommand { word, found, asked } => {
-                write!(
-                    out,
-                    "the deck ends in `{word}`, after {found} of {asked} bytes"
-                )
-            }
-            Fault::SecondPool => write!(out, "a second pool"),
-            Fault::FullList { word, most } => write!(out, "one {word} more than {most}"),
-            Fault::LongDeck => write!(out, "here the deck passes {MAX_DECK} bytes"),
+            Fault::Stop(fault) => fault.fmt(out),
+        }
+    }
+}
+
+impl fmt::Display for StopFault {
+    fn fmt(&self, out: &mut fmt::Formatter) -> fmt::Result {
+        match self {
+            StopFault::UnknownByte(byte) => write!(out, "no command has the byte {byte:02X}"),
+            StopFault::CutCommand { word, found, asked } => write!(
+                out,
+                "the deck ends in `{word}`, after {found} of {asked} bytes"
+            ),
+            StopFault::SecondPool => write!(out, "a second pool"),
+            StopFault::FullList { word, most } => write!(out, "one {word} more than {most}"),
+            StopFault::LongDeck => write!(out, "here the deck passes {MAX_DECK} bytes"),
         }
     }
 }
@@ -324,25 +336,28 @@ fn stopped(deck: &[u8], stop: Stop) -> Finding {
         .iter()
         .find(|command| deck.get(offset) == Some(&command.byte));
     let fault = match (refusal, command) {
-        _ if deck.len() > MAX_DECK => Fault::LongDeck,
-        (Refusal::TooMany, Some(command)) if command.byte == POOL => Fault::SecondPool,
-        (Refusal::TooMany, Some(command)) => Fault::FullList {
+        _ if deck.len() > MAX_DECK => StopFault::LongDeck,
+        (Refusal::TooMany, Some(command)) if command.byte == POOL => StopFault::SecondPool,
+        (Refusal::TooMany, Some(command)) => StopFault::FullList {
             word: command.word,
             most: most_entries(command.byte),
         },
-        (_, Some(command)) => Fault::CutCommand {
+        (_, Some(command)) => StopFault::CutCommand {
             word: command.word,
             found: deck.len() - offset,
             asked: 1 + command.width(),
         },
-        (_, None) => Fault::UnknownByte(deck[offset]),
+        (_, None) => StopFault::UnknownByte(deck[offset]),
     };
     Finding {
         offset,
         word: "deck",
         refusal,
         more_calls: 0,
-        causes: vec![Cause { offset, fault }],
+        causes: vec![Cause {
+            offset,
+            fault: Fault::Stop(fault),
+        }],
     }
 }
 

@@ -127,12 +127,11 @@ fn fields(line: &str) -> Result<(&str, Vec<i128>), String> {
     }
 }
 
-/// A number as the engine writes it, and no other way.
+/// A number as the engine writes it, and no other way. All of its figures fit
+/// 64 bits.
 fn number(field: &str) -> Option<i128> {
-    field
-        .parse()
-        .ok()
-        .filter(|number: &i128| number.to_string() == field)
+    let number: i64 = field.parse().ok()?;
+    (number.to_string() == field).then_some(i128::from(number))
 }
 
 /// Those of calls; 18 to 20 stop the deck.

@@ -7,7 +7,7 @@ use lavroudem_model::decks;
 use lavroudem_model::random::Random;
 use lavroudem_model::refusal::Refusal;
 use lavroudem_tool::course::course;
-use lavroudem_tool::diagnosis::{findings, told, Cause, Fault, Finding};
+use lavroudem_tool::diagnosis::{findings, told, Cause, Fault, Finding, StopFault};
 use lavroudem_tool::listing::read;
 use lavroudem_tool::text::{assemble_with_lines, Assembled, Lines};
 
@@ -50,104 +50,115 @@ fn refused(number: u8, word: &str, causes: &[&str]) -> String {
     verdict + &causes.collect::<String>()
 }
 
+/// Line, what is put there, refusal, its word and its causes.
+type Limit = (
+    usize,
+    &'static str,
+    u8,
+    &'static str,
+    &'static [&'static str],
+);
+
+const LIMITS: [Limit; 14] = [
+    (
+        1,
+        "",
+        1,
+        "pool",
+        &["line 11: no pool comes before this call"],
+    ),
+    (
+        1,
+        "pool 126 0 9 0 7",
+        1,
+        "pool",
+        &[
+            "line 1: names is 126, not 1 to 125",
+            "line 1: steps is 0, not 1 to 3650",
+            "line 1: tranches is 9, not 1 to 8",
+        ],
+    ),
+    (4, "", 2, "length", &["line 1: hazards: 1 of 2"]),
+    (8, "coupon 1 x 3", 2, "length", &["line 8: coupons: 4 of 2"]),
+    (
+        1,
+        "pool 2 3 2 0 7",
+        2,
+        "length",
+        &[
+            "line 1: cuts: 2 of 3",
+            "line 1: steps: 2 of 3",
+            "line 1: coupons: 2 of 3",
+        ],
+    ),
+    (
+        1,
+        "pool 2 2 1 1000000001 7",
+        3,
+        "recovery",
+        &["line 1: the recovery is 1000000001, above 1000000000"],
+    ),
+    (
+        3,
+        "cut 0",
+        4,
+        "cuts",
+        &["line 3: cut 2 is 0, not above the one before, 0"],
+    ),
+    (
+        3,
+        "cut 1000000001",
+        4,
+        "cuts",
+        &["line 3: cut 2 is 1000000001, above 1000000000"],
+    ),
+    (
+        5,
+        "hazard 1000000001",
+        5,
+        "hazard",
+        &["line 5: hazard 2 is 1000000001, above 1000000000"],
+    ),
+    (
+        6,
+        "step 0 0",
+        6,
+        "discount",
+        &["line 6: the discount of step 1 is 0"],
+    ),
+    (
+        6,
+        "step 1000000001 0",
+        6,
+        "discount",
+        &["line 6: the discount of step 1 is 1000000001, above 1000000000"],
+    ),
+    (
+        6,
+        "step 1 1000000001",
+        7,
+        "accrual",
+        &["line 6: the accrual of step 1 is 1000000001, above 1000000000"],
+    ),
+    (
+        7,
+        "step 1 0",
+        7,
+        "accrual",
+        &["line 7: the accrual of step 2, the last, is 0"],
+    ),
+    (
+        9,
+        "coupon 10000001",
+        8,
+        "coupon",
+        &["line 9: coupon 2 is 10000001, above 10000000"],
+    ),
+];
+
 #[test]
 fn each_limit_has_its_words_and_its_line() {
-    for (line, text, number, word, causes) in [
-        (
-            1,
-            "",
-            1,
-            "pool",
-            &["line 11: no pool comes before this call"][..],
-        ),
-        (
-            1,
-            "pool 126 0 9 0 7",
-            1,
-            "pool",
-            &[
-                "line 1: names is 126, not 1 to 125",
-                "line 1: steps is 0, not 1 to 3650",
-                "line 1: tranches is 9, not 1 to 8",
-            ],
-        ),
-        (4, "", 2, "length", &["line 1: hazards: 1 of 2"]),
-        (8, "coupon 1 x 3", 2, "length", &["line 8: coupons: 4 of 2"]),
-        (
-            1,
-            "pool 2 3 2 0 7",
-            2,
-            "length",
-            &[
-                "line 1: cuts: 2 of 3",
-                "line 1: steps: 2 of 3",
-                "line 1: coupons: 2 of 3",
-            ],
-        ),
-        (
-            1,
-            "pool 2 2 1 1000000001 7",
-            3,
-            "recovery",
-            &["line 1: the recovery is 1000000001, above 1000000000"],
-        ),
-        (
-            3,
-            "cut 0",
-            4,
-            "cuts",
-            &["line 3: cut 2 is 0, not above the one before, 0"],
-        ),
-        (
-            3,
-            "cut 1000000001",
-            4,
-            "cuts",
-            &["line 3: cut 2 is 1000000001, above 1000000000"],
-        ),
-        (
-            5,
-            "hazard 1000000001",
-            5,
-            "hazard",
-            &["line 5: hazard 2 is 1000000001, above 1000000000"],
-        ),
-        (
-            6,
-            "step 0 0",
-            6,
-            "discount",
-            &["line 6: the discount of step 1 is 0"],
-        ),
-        (
-            6,
-            "step 1000000001 0",
-            6,
-            "discount",
-            &["line 6: the discount of step 1 is 1000000001, above 1000000000"],
-        ),
-        (
-            6,
-            "step 1 1000000001",
-            7,
-            "accrual",
-            &["line 6: the accrual of step 1 is 1000000001, above 1000000000"],
-        ),
-        (
-            7,
-            "step 1 0",
-            7,
-            "accrual",
-            &["line 7: the accrual of step 2, the last, is 0"],
-        ),
-        (
-            9,
-            "coupon 10000001",
-            8,
-            "coupon",
-            &["line 9: coupon 2 is 10000001, above 10000000"],
-        ),
-    ] {
+    for (line, text, number, word, causes) in LIMITS {
         assert_eq!(with(line, text), refused(number, word, causes));
     }
     assert_eq!(with(4, SHEET[3]), "");
@@ -184,52 +195,55 @@ fn what_is_the_same_is_told_once() {
     assert_eq!(told.lines().count(), 7);
 }
 
+/// A text, the refusal that stops its deck, the offset and the cause.
+const STOPS: [(&str, &str, usize, &str); 7] = [
+    (
+        "open\nbytes ff",
+        "18 (unknown)",
+        1,
+        "line 2: no command has the byte FF",
+    ),
+    (
+        "open\nbytes 09 01",
+        "19 (cut short)",
+        1,
+        "line 2: the deck ends in `back`, after 2 of 3 bytes",
+    ),
+    (
+        "pool 1 1 1 1 1\n\npool 1 1 1 1 1",
+        "20 (too many)",
+        10,
+        "line 3: a second pool",
+    ),
+    (
+        "hazard 1 x 125\nhazard 2",
+        "20 (too many)",
+        625,
+        "line 2: one hazard more than 125",
+    ),
+    (
+        "cut 1 x 10",
+        "20 (too many)",
+        45,
+        "line 1: one cut more than 9",
+    ),
+    (
+        "step 1 1 x 3650\n#\nstep 1 1",
+        "20 (too many)",
+        32850,
+        "line 3: one step more than 3650",
+    ),
+    (
+        "open x 65536\nopen\nopen",
+        "20 (too many)",
+        65536,
+        "line 2: here the deck passes 65536 bytes",
+    ),
+];
+
 #[test]
 fn a_stop_has_its_line_and_its_offset() {
-    for (text, number, offset, cause) in [
-        (
-            "open\nbytes ff",
-            "18 (unknown)",
-            1,
-            "line 2: no command has the byte FF",
-        ),
-        (
-            "open\nbytes 09 01",
-            "19 (cut short)",
-            1,
-            "line 2: the deck ends in `back`, after 2 of 3 bytes",
-        ),
-        (
-            "pool 1 1 1 1 1\n\npool 1 1 1 1 1",
-            "20 (too many)",
-            10,
-            "line 3: a second pool",
-        ),
-        (
-            "hazard 1 x 125\nhazard 2",
-            "20 (too many)",
-            625,
-            "line 2: one hazard more than 125",
-        ),
-        (
-            "cut 1 x 10",
-            "20 (too many)",
-            45,
-            "line 1: one cut more than 9",
-        ),
-        (
-            "step 1 1 x 3650\n#\nstep 1 1",
-            "20 (too many)",
-            32850,
-            "line 3: one step more than 3650",
-        ),
-        (
-            "open x 65536\nopen\nopen",
-            "20 (too many)",
-            65536,
-            "line 2: here the deck passes 65536 bytes",
-        ),
-    ] {
+    for (text, number, offset, cause) in STOPS {
         let told = explained(text);
         let verdict = format!(": the deck stops at byte {offset}: refused {number}\n");
         assert!(told.contains(&verdict), "{told}");
@@ -265,76 +279,89 @@ fn entered(deck: &[u8], before: usize, kind: u8, operand: usize) -> Vec<u64> {
     numbers
 }
 
-/// Whether a cause is so of the sheet that a call brought, and a cause of
-/// this refusal. Written without the code that finds it.
-fn is_so(deck: &[u8], call: usize, refusal: Refusal, cause: &Cause) -> bool {
-    const B: u64 = 1_000_000_000;
-    let list = |kind, operand| entered(deck, call, kind, operand);
-    let pool = |operand| list(POOL, operand).first().copied();
-    let at = |numbers: &[u64], place: usize| numbers[place - 1];
-    match (refusal, &cause.fault) {
-        (Refusal::Pool, Fault::NoPool) => pool(0).is_none(),
-        (Refusal::Pool, &Fault::Shape { what, found, .. }) => match what {
-            "names" => pool(0) == Some(found) && !(1..=125).contains(&found),
-            "steps" => pool(1) == Some(found) && !(1..=3_650).contains(&found),
-            _ => pool(2) == Some(found) && !(1..=8).contains(&found),
-        },
-        (
-            Refusal::Length,
-            &Fault::Length {
-                list: of,
-                found,
-                asked,
-            },
-        ) => {
-            let (kind, wanted) = match of {
-                "cuts" => (CUT, pool(2).unwrap() + 1),
-                "hazards" => (HAZARD, pool(0).unwrap()),
-                "steps" => (STEP, pool(1).unwrap()),
-                _ => (COUPON, pool(2).unwrap() + 1),
-            };
-            list(kind, 0).len() == found && wanted == asked as u64 && found != asked
+/// A sheet as a call brought it, read once more.
+struct Brought<'a> {
+    deck: &'a [u8],
+    call: usize,
+}
+
+const B: u64 = 1_000_000_000;
+
+impl Brought<'_> {
+    fn list(&self, kind: u8, operand: usize) -> Vec<u64> {
+        entered(self.deck, self.call, kind, operand)
+    }
+
+    fn pool(&self, operand: usize) -> Option<u64> {
+        self.list(POOL, operand).first().copied()
+    }
+
+    /// Whether a cause is so, and one of this refusal. Written without the
+    /// code that finds it.
+    fn bears_out(&self, refusal: Refusal, cause: &Cause) -> bool {
+        match (refusal, &cause.fault) {
+            (Refusal::Pool, Fault::NoPool) => self.pool(0).is_none(),
+            (Refusal::Pool, &Fault::Shape { what, found, .. }) => self.is_outside(what, found),
+            (Refusal::Length, &Fault::Length { list, found, asked }) => {
+                found != asked && self.has_length(list, found, asked)
+            }
+            (Refusal::Recovery, &Fault::Recovery(found)) => {
+                self.pool(3) == Some(found) && found > B
+            }
+            (_, &Fault::Above { place, number, .. }) => self.is_above(refusal, place, number),
+            _ => self.breaks_an_order(refusal, &cause.fault),
         }
-        (Refusal::Recovery, &Fault::Recovery(found)) => pool(3) == Some(found) && found > B,
-        (
-            Refusal::Attachments,
-            &Fault::NotRising {
-                place,
-                number,
-                before,
-            },
-        ) => {
-            let cuts = list(CUT, 0);
-            at(&cuts, place) == number && at(&cuts, place - 1) == before && number <= before
+    }
+
+    fn is_outside(&self, what: &str, found: u64) -> bool {
+        let (operand, most) = match what {
+            "names" => (0, 125),
+            "steps" => (1, 3_650),
+            _ => (2, 8),
+        };
+        self.pool(operand) == Some(found) && !(1..=most).contains(&found)
+    }
+
+    fn has_length(&self, list: &str, found: usize, asked: usize) -> bool {
+        let (kind, wanted) = match list {
+            "cuts" => (CUT, self.pool(2).unwrap() + 1),
+            "hazards" => (HAZARD, self.pool(0).unwrap()),
+            "steps" => (STEP, self.pool(1).unwrap()),
+            _ => (COUPON, self.pool(2).unwrap() + 1),
+        };
+        self.list(kind, 0).len() == found && wanted == asked as u64
+    }
+
+    fn is_above(&self, refusal: Refusal, place: usize, number: u64) -> bool {
+        let (kind, operand, limit) = match refusal {
+            Refusal::Attachments => (CUT, 0, B),
+            Refusal::Hazard => (HAZARD, 0, B),
+            Refusal::Discount => (STEP, 0, B),
+            Refusal::Accrual => (STEP, 1, B),
+            Refusal::Coupon => (COUPON, 0, 10_000_000),
+            _ => return false,
+        };
+        self.list(kind, operand)[place - 1] == number && number > limit
+    }
+
+    /// The causes that are not of one figure and its highest.
+    fn breaks_an_order(&self, refusal: Refusal, fault: &Fault) -> bool {
+        match (refusal, fault) {
+            (Refusal::Attachments, &Fault::NotRising { place, number, .. }) => {
+                let cuts = self.list(CUT, 0);
+                cuts[place - 1] == number && number <= cuts[place - 2]
+            }
+            (Refusal::Discount, &Fault::NoDiscount { step }) => self.list(STEP, 0)[step - 1] == 0,
+            (Refusal::Accrual, &Fault::AccrualSum { sum }) => {
+                let all: u64 = self.list(STEP, 1).iter().sum();
+                sum > 10 * u128::from(B) && u128::from(all) >= sum
+            }
+            (Refusal::Accrual, &Fault::LastAccrual { step }) => {
+                let accruals = self.list(STEP, 1);
+                accruals.len() == step && accruals[step - 1] == 0
+            }
+            _ => false,
         }
-        (
-            _,
-            &Fault::Above {
-                place,
-                number,
-                most,
-                ..
-            },
-        ) => {
-            let (kind, operand, limit) = match refusal {
-                Refusal::Attachments => (CUT, 0, B),
-                Refusal::Hazard => (HAZARD, 0, B),
-                Refusal::Discount => (STEP, 0, B),
-                Refusal::Accrual => (STEP, 1, B),
-                Refusal::Coupon => (COUPON, 0, 10_000_000),
-                _ => return false,
-            };
-            at(&list(kind, operand), place) == number && most == limit && number > most
-        }
-        (Refusal::Discount, &Fault::NoDiscount { step }) => at(&list(STEP, 0), step) == 0,
-        (Refusal::Accrual, &Fault::AccrualSum { sum }) => {
-            let all: u64 = list(STEP, 1).iter().sum();
-            sum > 10 * u128::from(B) && u128::from(all) >= sum
-        }
-        (Refusal::Accrual, &Fault::LastAccrual { step }) => {
-            list(STEP, 1).len() == step && at(&list(STEP, 1), step) == 0
-        }
-        _ => false,
     }
 }
 
@@ -362,14 +389,31 @@ fn every_refusal_of_a_sheet_has_a_cause_that_is_so() {
             explained.extend(vec![number; 1 + finding.more_calls]);
             met[number] += 1;
             assert!(!finding.causes.is_empty(), "{finding:?}");
+            let brought = Brought {
+                deck: &deck,
+                call: finding.offset,
+            };
             for cause in &finding.causes {
-                let so = is_so(&deck, finding.offset, finding.refusal, cause);
+                let so = brought.bears_out(finding.refusal, cause);
                 assert!(so, "{finding:?}");
             }
         }
         assert_eq!(explained, numbers);
     }
     assert!(met[1..].iter().all(|&count| count > 0), "{met:?}");
+}
+
+fn stands_there(deck: &[u8], finding: &Finding, fault: &StopFault) -> bool {
+    let number = finding.refusal.number();
+    match fault {
+        StopFault::UnknownByte(byte) => number == 18 && deck[finding.offset] == *byte,
+        StopFault::CutCommand { found, .. } => {
+            number == 19 && deck.len() - finding.offset == *found
+        }
+        StopFault::SecondPool => number == 20 && deck[finding.offset] == POOL,
+        StopFault::FullList { .. } => number == 20 && deck[finding.offset] <= COUPON,
+        StopFault::LongDeck => number == 20 && deck.len() > MAX_DECK,
+    }
 }
 
 #[test]
@@ -392,18 +436,10 @@ fn every_stop_has_its_cause() {
         let number = finding.refusal.number();
         assert_eq!(last, format!("deck {number} {}", finding.offset));
         met[usize::from(number - 18)] += 1;
-        let fault = &finding.causes[0].fault;
-        let fits = match fault {
-            Fault::UnknownByte(byte) => number == 18 && deck[finding.offset] == *byte,
-            Fault::CutCommand { found, .. } => {
-                number == 19 && deck.len() - finding.offset == *found
-            }
-            Fault::SecondPool => number == 20 && deck[finding.offset] == POOL,
-            Fault::FullList { .. } => number == 20 && deck[finding.offset] <= COUPON,
-            Fault::LongDeck => number == 20 && deck.len() > MAX_DECK,
-            _ => false,
+        let Fault::Stop(fault) = &finding.causes[0].fault else {
+            panic!("{finding:?}");
         };
-        assert!(fits, "{finding:?}");
+        assert!(stands_there(&deck, finding, fault), "{finding:?}");
     }
     assert!(met.iter().all(|&count| count > 0), "{met:?}");
 }

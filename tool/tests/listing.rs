@@ -3,8 +3,8 @@
 use lavroudem_model::deck::listing;
 use lavroudem_model::decks;
 use lavroudem_model::random::Random;
-use lavroudem_tool::course::course;
-use lavroudem_tool::listing::read;
+use lavroudem_tool::course::{course, Course};
+use lavroudem_tool::listing::{calls, read, Answer};
 use lavroudem_tool::text::assemble;
 
 /// Forty bytes that print nothing.
@@ -49,6 +49,7 @@ fn a_line_of_no_listing_is_a_mistake() {
     for line in [
         "open",
         "open zero",
+        "open 9223372036854775808",
         "open 9 9",
         "open  0",
         "open 0 ",
@@ -101,4 +102,47 @@ fn random_listings_are_taken_whole_alone() {
             assert!(read(&course, cut).is_err());
         }
     }
+}
+
+/// The listing that the answers were read from.
+fn printed_again(course: &Course, answers: &[Answer]) -> String {
+    let line = |(call, answer): (&str, &Answer)| match answer {
+        Ok(figures) => {
+            let figures = figures.iter().map(|figure| format!(" {figure}"));
+            format!("{call} 0{}\n", figures.collect::<String>())
+        }
+        Err(refusal) => format!("{call} {}\n", refusal.number()),
+    };
+    let words = calls(course).map(|placed| placed.read.command.word);
+    let lines: String = words.zip(answers).map(line).collect();
+    let stop = course.stop.map(|stop| (stop.refusal.number(), stop.offset));
+    let stop = stop.map(|(number, offset)| format!("deck {number} {offset}\n"));
+    lines + &stop.unwrap_or_default()
+}
+
+/// What is taken is taken to the letter, so a damaged listing shows either
+/// as what it says or not at all.
+#[test]
+fn damaged_listings_are_taken_to_the_letter_or_not_at_all() {
+    let mut random = Random::new(0x7157_0002);
+    let mut taken = 0;
+    for _ in 0..20_000 {
+        let deck = decks::any(&mut random);
+        let course = course(&deck);
+        let mut printed = listing(&deck);
+        if printed.is_empty() {
+            continue;
+        }
+        let place = random.below(printed.len());
+        match random.below(3) {
+            0 => printed[place] = b"0123456789 -\ndk\xFF"[random.below(16)],
+            1 => drop(printed.remove(place)),
+            _ => printed.insert(place, b"0123456789 -\ndk\xFF"[random.below(16)]),
+        }
+        if let Ok(answers) = read(&course, &printed) {
+            taken += 1;
+            assert_eq!(printed_again(&course, &answers).as_bytes(), printed);
+        }
+    }
+    assert!(taken > 0);
 }

@@ -221,42 +221,34 @@ fn a_byte_order_mark_is_skipped() {
     );
 }
 
+const UTF_16: &str = "line 1: this is UTF-16; a text deck is UTF-8";
+
+const NEARLY_TEXT: [(&[u8], &str); 8] = [
+    (
+        b"open\nopen # \xFF\n",
+        "line 2: byte 8 of the line is FF, which is not UTF-8",
+    ),
+    (
+        b"open\n\x0Cissue 7\n",
+        "line 2: byte 1 of the line is 0C, a control character",
+    ),
+    (
+        b"# caf\xE9\nopen\n",
+        "line 1: byte 6 of the line is E9, which is not UTF-8",
+    ),
+    (
+        b"open\n\0",
+        "line 2: byte 1 of the line is 00, a control character",
+    ),
+    (b"\xFF\xFEo\0p\0e\0n\0", UTF_16),
+    (b"\xFE\xFF\0o\0p\0e\0n", UTF_16),
+    (b"o\0p\0e\0n\0", UTF_16),
+    (b"\0o\0p\0e\0n", UTF_16),
+];
+
 #[test]
 fn what_is_nearly_text_is_told_so() {
-    for (bytes, told) in [
-        (
-            &b"open\nopen # \xFF\n"[..],
-            "line 2: byte 8 of the line is FF, which is not UTF-8",
-        ),
-        (
-            b"open\n\x0Cissue 7\n",
-            "line 2: byte 1 of the line is 0C, a control character",
-        ),
-        (
-            b"# caf\xE9\nopen\n",
-            "line 1: byte 6 of the line is E9, which is not UTF-8",
-        ),
-        (
-            b"open\n\0",
-            "line 2: byte 1 of the line is 00, a control character",
-        ),
-        (
-            b"\xFF\xFEo\0p\0e\0n\0",
-            "line 1: this is UTF-16; a text deck is UTF-8",
-        ),
-        (
-            b"\xFE\xFF\0o\0p\0e\0n",
-            "line 1: this is UTF-16; a text deck is UTF-8",
-        ),
-        (
-            b"o\0p\0e\0n\0",
-            "line 1: this is UTF-16; a text deck is UTF-8",
-        ),
-        (
-            b"\0o\0p\0e\0n",
-            "line 1: this is UTF-16; a text deck is UTF-8",
-        ),
-    ] {
+    for (bytes, told) in NEARLY_TEXT {
         let mistake = as_deck(bytes, Form::Either).unwrap_err();
         assert!(mistake.starts_with(told), "{mistake}");
         assert_eq!(as_deck(bytes, Form::Binary), Ok(bytes.to_vec()));
