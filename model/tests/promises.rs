@@ -1,8 +1,10 @@
 //! Holds `docs/PROMISES.md` to the tree: every cited file and name is there,
 //! every count is right, and the worked hedge has the model's figures.
 
+mod arithmetic;
 mod definitions;
 
+use arithmetic::commas;
 use definitions::{counts, spec_files, Definitions, Key};
 use lavroudem_model::cash::{default_payment, half, outstanding, pool_loss, tranche_loss};
 use lavroudem_model::sheet::{Sheet, B};
@@ -207,23 +209,6 @@ fn table_of_definitions_is_whole() {
 }
 
 // ---- the worked hedge
-
-/// A whole number with commas.
-fn commas(number: i128) -> String {
-    let digits = number.unsigned_abs().to_string();
-    let mut text = String::new();
-    for (place, digit) in digits.chars().enumerate() {
-        if place > 0 && (digits.len() - place) % 3 == 0 {
-            text.push(',');
-        }
-        text.push(digit);
-    }
-    if number < 0 {
-        format!("-{text}")
-    } else {
-        text
-    }
-}
 
 /// Millionths of a euro in euro with so many decimals, which must be enough.
 fn euro(millionths: i128, places: u32) -> String {

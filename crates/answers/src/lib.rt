@@ -23,7 +23,7 @@ pub fn of_walk(answer: walk::Answer) -> OrderAnswer
     ensures { λ r. ⌜ answerSaid r ≡ saidOf answer ⌝ }
 {
     match answer {
-        walk::Answer::Refused(refusal) => OrderAnswer::Refused(checks::refusal_number(refusal)),
+        walk::Answer::Refused(refusal) => OrderAnswer::Refused(refusals::refusal_number(refusal)),
         walk::Answer::Done => OrderAnswer::Done,
         walk::Answer::Position(position) => OrderAnswer::Position(position),
         walk::Answer::Worth(d, a, w) => OrderAnswer::Worth(d, a, w),

@@ -1,115 +1,17 @@
 // Sheets as they are brought, and the refusals 1 to 8 that look at nothing else.
 ghost use mathlib.Core.Path.{_≡_};
-ghost use mathlib.Core.Bool.{false};
 ghost use mathlib.Core.List.{[]};
-ghost use Rattle.sheet.specs.Terms.{bare};
 ghost use Rattle.sheet.specs.Spans.{broughtIn, termsIn};
 ghost use Rattle.sheet.specs.Limits.{PoolInside, ListsFit};
-ghost use Rattle.checks.specs.Refusals.{refusalNumber};
-ghost use Rattle.checks.specs.Tests.{poolBad, first, trancheTests, treeTests, figureTests, sheetTests};
+ghost use Rattle.refusals.specs.Tests.{first, trancheTests, treeTests, figureTests, sheetTests};
 use cash::UNITS;
-use sheet::NAMES_MOST;
-use sheet::Pool;
-use sheet::STEPS_MOST;
+use refusals::Found;
+use refusals::Refusal;
 use sheet::Sheet;
-use sheet::TRANCHES_MOST;
 use sheet::part;
-
-mod single; // single.rt: each check, a yes or no
-
-// Every refusal of a call, with document 01's number and word.
-pub enum Refusal {
-    // 1, pool
-    Pool,
-    // 2, length
-    Length,
-    // 3, recovery
-    Recovery,
-    // 4, cuts
-    Attachments,
-    // 5, hazard
-    Hazard,
-    // 6, discount
-    Discount,
-    // 7, accrual
-    Accrual,
-    // 8, coupon
-    Coupon,
-    // 9, withdrawn
-    Withdrawn,
-    // 10, unissued
-    Unissued,
-    // 11, no walk
-    NoWalk,
-    // 12, soiled
-    OverCeiling,
-    // 13, out of steps
-    OutOfSteps,
-    // 14, off tree
-    OffTree,
-    // 15, flat hedge
-    FlatHedge,
-    // 16, off scale
-    OffScale,
-}
-
-// What a list of checks finds: the first refusal, or nothing.
-pub enum Found {
-    Fine,
-    Refused(Refusal),
-}
-
-// A refusal's number in document 01.
-pub fn refusal_number(refusal: Refusal) -> u8
-    ensures { λ r. ⌜ r ≡ refusalNumber refusal ⌝ }
-{
-    match refusal {
-        Refusal::Pool => 1,
-        Refusal::Length => 2,
-        Refusal::Recovery => 3,
-        Refusal::Attachments => 4,
-        Refusal::Hazard => 5,
-        Refusal::Discount => 6,
-        Refusal::Accrual => 7,
-        Refusal::Coupon => 8,
-        Refusal::Withdrawn => 9,
-        Refusal::Unissued => 10,
-        Refusal::NoWalk => 11,
-        Refusal::OverCeiling => 12,
-        Refusal::OutOfSteps => 13,
-        Refusal::OffTree => 14,
-        Refusal::FlatHedge => 15,
-        Refusal::OffScale => 16,
-    }
-}
 
 // The highest coupon, in thousandths of a basis point a year.
 const COUPON_MOST: u64 = 10_000_000;
-
-// 1: whether the names, steps or tranches are outside their limits.
-fn pool_outside(pool: Pool) -> bool
-    ensures { λ r. ⌜ r ≡ poolBad (bare pool []) ⌝ }
-{
-    if pool.names < 1 {
-        return true;
-    }
-    if NAMES_MOST < pool.names {
-        return true;
-    }
-    if pool.steps < 1 {
-        return true;
-    }
-    if STEPS_MOST < pool.steps {
-        return true;
-    }
-    if pool.tranches < 1 {
-        return true;
-    }
-    if TRANCHES_MOST < pool.tranches {
-        return true;
-    }
-    false
-}
 
 // Checks 3 and 4: what the tranches rest on.
 fn tranches_refusal(sheet: Sheet, numbers: &[u64]) -> Found
@@ -121,7 +23,7 @@ fn tranches_refusal(sheet: Sheet, numbers: &[u64]) -> Found
         return Found::Refused(Refusal::Recovery);
     }
     let attachments = part(sheet.attachments, numbers);
-    if single::attachments_bad(pool, attachments) {
+    if faults::attachments_bad(pool, attachments) {
         return Found::Refused(Refusal::Attachments);
     }
     Found::Fine
@@ -142,7 +44,7 @@ fn tree_refusal(sheet: Sheet, numbers: &[u64]) -> Found
     }
     let pool = sheet.pool;
     let accruals = part(sheet.accruals, numbers);
-    if single::accruals_bad(pool, accruals) {
+    if faults::accruals_bad(pool, accruals) {
         return Found::Refused(Refusal::Accrual);
     }
     Found::Fine
@@ -173,10 +75,10 @@ fn figures_refusal(sheet: Sheet, numbers: &[u64]) -> Found
 pub fn sheet_refusal(sheet: Sheet, numbers: &[u64], lent: bool) -> Found
     ensures { λ r. ⌜ r ≡ first (sheetTests (broughtIn sheet (now (numbers .entry))) lent []) ⌝ }
 {
-    if pool_outside(sheet.pool) {
+    if faults::pool_outside(sheet.pool) {
         return Found::Refused(Refusal::Pool);
     }
-    if single::lists_differ(sheet, numbers) {
+    if faults::lists_differ(sheet, numbers) {
         return Found::Refused(Refusal::Length);
     }
     if lent {

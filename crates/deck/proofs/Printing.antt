@@ -10,20 +10,30 @@ use lib.Dec.{ltb}
 use lib.ListN.{length, drop, length-append}
 use lib.Seq.{sets-eq}
 use Rattle.lines.specs.Text.{Wrote}
-use Rattle.machine.specs.Machine.{freshMachine}
+use Rattle.machine.specs.Machine.{machineOn}
 use Rattle.render.specs.Lines.{deckLine}
 use Rattle.interpreter.specs.ListingFrom.{listingFrom}
+use Rattle.interpreter.specs.RegisterFrom.{registerFrom}
 use Rattle.deck.specs.declared.Ran.the-variants.{Printed, NoRoom}
-use Rattle.deck.specs.Listing.{listing, room, Printout, printout, printing}
+use Rattle.deck.specs.Listing.{listingOn, registerAfter, room, Printout, printout, printingOn, registerLeft}
 
 -- a deck that is too long, and one that is not
-pub oversized : (deck : List ℕ) → 65536 < length deck → deckLine 20 65536 ≡ listing deck
-unfolding listing
-oversized deck h = sym (rw (lt-ltb 65536 (length deck) h, listing))
+module _ (register deck : List ℕ) where
+  pub oversized : 65536 < length deck → deckLine 20 65536 ≡ listingOn register deck
+  unfolding listingOn
+  oversized h = sym (rw (lt-ltb 65536 (length deck) h, listingOn))
 
-pub sized : (deck : List ℕ) → length deck ≤ 65536 → listingFrom (length deck) deck 0 freshMachine ≡ listing deck
-unfolding listing
-sized deck h = sym (rw (le-ltb 65536 (length deck) h, listing))
+  pub oversized-left : 65536 < length deck → register ≡ registerAfter register deck
+  unfolding registerAfter
+  oversized-left h = sym (rw (lt-ltb 65536 (length deck) h, registerAfter))
+
+  pub sized : length deck ≤ 65536 → listingFrom (length deck) deck 0 (machineOn register) ≡ listingOn register deck
+  unfolding listingOn
+  sized h = sym (rw (le-ltb 65536 (length deck) h, listingOn))
+
+  pub sized-left : length deck ≤ 65536 → registerFrom (length deck) deck 0 (machineOn register) ≡ registerAfter register deck
+  unfolding registerAfter
+  sized-left h = sym (rw (le-ltb 65536 (length deck) h, registerAfter))
 
 -- the room of a deck
 pub room-least : (bytes : ℕ) → 96 ≤ room bytes
@@ -39,47 +49,57 @@ pub room-most : (bytes : ℕ) → room bytes ≤ 2097248
 unfolding room
 room-most bytes = omega arith
 
-pub no-room : (deck out : List ℕ) → length out < room (length deck) → printout NoRoom out ≡ printing deck out
-unfolding printing
-no-room deck out h = sym (rw (lt-ltb (length out) (room (length deck)) h, printing))
+module _ (register deck out : List ℕ) where
+  pub no-room : length out < room (length deck) → printout NoRoom out ≡ printingOn register deck out
+  unfolding printingOn
+  no-room h = sym (rw (lt-ltb (length out) (room (length deck)) h, printingOn))
 
-pub printed : (deck out after text : List ℕ) (r : ℕ) → room (length deck) ≤ length out → text ≡ listing deck → Wrote out 0 text after r → r ≤ length out →
-    printout (Printed r) after ≡ printing deck out
-unfolding printing
-printed deck out after text r fits is w within =
-    let long : r ≡ length text = w .stop ∙ zero-add (length text) in
-    let front : after ≡ text ++ drop (length text) out =
-    w .bytes ∙ sets-eq text out 0 (omega (arith, long)) ∙ ap (λ (n : ℕ). text ++ drop n out) (zero-add (length text)) in
-    (λ j. printout (Printed (long j)) (front j))
-    ∙ ap (λ (l : List ℕ). printout (Printed (length l)) (l ++ drop (length l) out)) is
-    ∙ sym (rw (le-ltb (length out) (room (length deck)) fits, printing))
+  pub no-room-left : length out < room (length deck) → register ≡ registerLeft register deck out
+  unfolding registerLeft
+  no-room-left h = sym (rw (lt-ltb (length out) (room (length deck)) h, registerLeft))
+
+  pub left : {after : List ℕ} → room (length deck) ≤ length out → after ≡ registerAfter register deck → after ≡ registerLeft register deck out
+  unfolding registerLeft
+  left fits is = is ∙ sym (rw (le-ltb (length out) (room (length deck)) fits, registerLeft))
+
+  pub printed : (after text : List ℕ) (r : ℕ) → room (length deck) ≤ length out → text ≡ listingOn register deck → Wrote out 0 text after r →
+      r ≤ length out → printout (Printed r) after ≡ printingOn register deck out
+  unfolding printingOn
+  printed after text r fits is w within =
+      let long : r ≡ length text = w .stop ∙ zero-add (length text) in
+      let front : after ≡ text ++ drop (length text) out =
+      w .bytes ∙ sets-eq text out 0 (omega (arith, long)) ∙ ap (λ (n : ℕ). text ++ drop n out) (zero-add (length text)) in
+      (λ j. printout (Printed (long j)) (front j))
+      ∙ ap (λ (l : List ℕ). printout (Printed (length l)) (l ++ drop (length l) out)) is
+      ∙ sym (rw (le-ltb (length out) (room (length deck)) fits, printingOn))
 
 -- ---- for callers: what is printed stands in out
 
 no-such : {r : ℕ} {out after : List ℕ} → printout NoRoom out ≡ printout (Printed r) after → ⊥
 no-such {r} {out} {after} e = let n : NoRoom ≡ Printed r = ap (λ (p : Printout). p .answer) e in let z : _≡_ {A = ℕ} 0 1 = cc in omega arith
 
-pub printed-within : (deck out after : List ℕ) (r : ℕ) → printout (Printed r) after ≡ printing deck out → r ≤ length after
-unfolding printing
-printed-within deck out after r e = go (ltb (length out) (room (length deck))) refl
+pub printed-within : (register deck out after : List ℕ) (r : ℕ) → printout (Printed r) after ≡ printingOn register deck out → r ≤ length after
+unfolding printingOn
+printed-within register deck out after r e = go (ltb (length out) (room (length deck))) refl
   where
     go : (b : Bool) → ltb (length out) (room (length deck)) ≡ b → r ≤ length after
-    go true t = let p : printout (Printed r) after ≡ printout NoRoom out = e ∙ rw (t, printing) in absurd (no-such (sym p))
+    go true t = let p : printout (Printed r) after ≡ printout NoRoom out = e ∙ rw (t, printingOn) in absurd (no-such (sym p))
     go false t =
-        let p : printout (Printed r) after ≡ printout (Printed (length (listing deck))) (listing deck ++ drop (length (listing deck)) out) =
-        e ∙ rw (t, printing) in
-        let n : Printed r ≡ Printed (length (listing deck)) = ap (λ (q : Printout). q .answer) p in
-        let m : r ≡ length (listing deck) = cc in
-        let a : length after ≡ length (listing deck ++ drop (length (listing deck)) out) = ap (λ (q : Printout). length (q .out)) p in
-        omega (arith, m, a, length-append (listing deck) (drop (length (listing deck)) out))
+        let text = listingOn register deck in
+        let p : printout (Printed r) after ≡ printout (Printed (length text)) (text ++ drop (length text) out) = e ∙ rw (t, printingOn) in
+        let n : Printed r ≡ Printed (length text) = ap (λ (q : Printout). q .answer) p in
+        let m : r ≡ length text = cc in
+        let a : length after ≡ length (text ++ drop (length text) out) = ap (λ (q : Printout). length (q .out)) p in
+        omega (arith, m, a, length-append text (drop (length text) out))
 
 -- that there is no room is said only where there is none
-pub no-room-only : (deck out after : List ℕ) → printout NoRoom after ≡ printing deck out → length out < room (length deck)
-unfolding printing
-no-room-only deck out after e = go (ltb (length out) (room (length deck))) refl
+pub no-room-only : (register deck out after : List ℕ) → printout NoRoom after ≡ printingOn register deck out → length out < room (length deck)
+unfolding printingOn
+no-room-only register deck out after e = go (ltb (length out) (room (length deck))) refl
   where
     go : (b : Bool) → ltb (length out) (room (length deck)) ≡ b → length out < room (length deck)
     go true t = ltb-true _ _ t
     go false t =
-        let p : printout NoRoom after ≡ printout (Printed (length (listing deck))) (listing deck ++ drop (length (listing deck)) out) = e ∙ rw (t, printing) in
+        let text = listingOn register deck in
+        let p : printout NoRoom after ≡ printout (Printed (length text)) (text ++ drop (length text) out) = e ∙ rw (t, printingOn) in
         absurd (no-such p)

@@ -1,18 +1,31 @@
--- What a deck prints (document 01, 'Deck and printing program').
+-- What a deck prints, and the register that it leaves (document 01, 'Deck and printing program').
 use Prim.Native.Nat.{ℕ, _+_, _*_, min}
 use mathlib.Core.Bool.{true, false}
 use mathlib.Core.List.{List, _++_}
 use lib.Dec.{ltb}
 use lib.ListN.{length, drop}
-use Rattle.machine.specs.Machine.{freshMachine}
+use Rattle.register.specs.Events.{blankRegister}
+use Rattle.machine.specs.Machine.{machineOn}
 use Rattle.render.specs.Lines.{deckLine}
 use Rattle.interpreter.specs.ListingFrom.{listingFrom}
+use Rattle.interpreter.specs.RegisterFrom.{registerFrom}
 use Rattle.deck.specs.declared.Ran.{Ran}
 use Rattle.deck.specs.declared.Ran.the-variants.{Printed, NoRoom}
 
--- The whole listing. Each command has a byte at least, so there are no more commands than bytes. An oversized deck prints only one line.
-unfoldable pub listing : List ℕ → List ℕ
-listing deck = elim (ltb 65536 (length deck)) [ true ↦ deckLine 20 65536 | false ↦ listingFrom (length deck) deck 0 freshMachine ]
+-- The whole listing of a run on a register. Each command has a byte at least, so there are no more commands than bytes. An oversized deck prints
+-- only one line.
+unfoldable pub listingOn : List ℕ → List ℕ → List ℕ
+listingOn register deck =
+    elim (ltb 65536 (length deck)) [ true ↦ deckLine 20 65536 | false ↦ listingFrom (length deck) deck 0 (machineOn register) ]
+
+-- The program starts with a blank register.
+abbrev pub listing : List ℕ → List ℕ
+listing deck = listingOn blankRegister deck
+
+-- The register that a run leaves. An oversized deck does nothing.
+unfoldable pub registerAfter : List ℕ → List ℕ → List ℕ
+registerAfter register deck =
+    elim (ltb 65536 (length deck)) [ true ↦ register | false ↦ registerFrom (length deck) deck 0 (machineOn register) ]
 
 -- ---- The room that is asked for: 32 bytes for each byte of a deck, and 96 for the last line
 
@@ -27,9 +40,18 @@ pub record Printout : Type 0 where
 abbrev pub printout : Ran → List ℕ → Printout
 printout r out = record { answer = r; out = out }
 
-unfoldable pub printing : List ℕ → List ℕ → Printout
-printing deck out =
+-- With no room nothing is written.
+unfoldable pub printingOn : List ℕ → List ℕ → List ℕ → Printout
+printingOn register deck out =
     elim (ltb (length out) (room (length deck))) [
       | true ↦ printout NoRoom out
-      | false ↦ printout (Printed (length (listing deck))) (listing deck ++ drop (length (listing deck)) out)
+      | false ↦
+          printout (Printed (length (listingOn register deck))) (listingOn register deck ++ drop (length (listingOn register deck)) out)
     ]
+
+abbrev pub printing : List ℕ → List ℕ → Printout
+printing deck out = printingOn blankRegister deck out
+
+-- Nor is the register changed then.
+unfoldable pub registerLeft : List ℕ → List ℕ → List ℕ → List ℕ
+registerLeft register deck out = elim (ltb (length out) (room (length deck))) [ true ↦ register | false ↦ registerAfter register deck ]

@@ -1,6 +1,6 @@
 // A whole deck: its commands are run one after the other, and what they print is written.
 ghost use mathlib.Core.Path.{_≡_};
-ghost use Rattle.deck.specs.Listing.{room as roomOf, printout, printing};
+ghost use Rattle.deck.specs.Listing.{room as roomOf, printout, printing, printingOn, registerLeft};
 use entries::NUMBERS;
 use sheet::COUNTS_MOST;
 use sheet::ROW_MOST;
@@ -24,9 +24,10 @@ pub fn room(bytes: usize) -> usize
     32 * MOST + 96
 }
 
-// Prints the listing of a deck at the start of out.
-pub fn run(deck: &[u8], out: &mut [u8]) -> Ran
-    ensures { λ r. ⌜ printout r (now (out .exit)) ≡ printing (now (deck .entry)) (now (out .entry)) ⌝ }
+// Runs a deck on a register, of any length, and prints its listing at the start of out.
+pub fn run_on(deck: &[u8], register: &mut [u8], out: &mut [u8]) -> Ran
+    ensures prints { λ r. ⌜ printout r (now (out .exit)) ≡ printingOn (now (register .entry)) (now (deck .entry)) (now (out .entry)) ⌝ }
+    ensures leaves { λ _. ⌜ now (register .exit) ≡ registerLeft (now (register .entry)) (now (deck .entry)) (now (out .entry)) ⌝ }
 {
     if out.len() < room(deck.len()) {
         return Ran::NoRoom;
@@ -36,17 +37,24 @@ pub fn run(deck: &[u8], out: &mut [u8]) -> Ran
     }
     // the most entries of each list; rows as the largest sheet has them
     let mut numbers = [0u64; NUMBERS];
-    let mut register = [0xFFu8; 256];
     let mut defaults = [0u64; ROW_MOST];
     let mut premiums = [0u64; ROW_MOST];
     let mut row = [0u64; COUNTS_MOST];
     Ran::Printed(interpreter::interpret(
         deck,
         &mut numbers,
-        &mut register,
+        register,
         &mut defaults,
         &mut premiums,
         &mut row,
         out,
     ))
+}
+
+// The same on a blank register of its own.
+pub fn run(deck: &[u8], out: &mut [u8]) -> Ran
+    ensures { λ r. ⌜ printout r (now (out .exit)) ≡ printing (now (deck .entry)) (now (out .entry)) ⌝ }
+{
+    let mut register = [0xFFu8; 256];
+    run_on(deck, &mut register, out)
 }

@@ -22,7 +22,7 @@ use Rattle.tree.specs.Sheet.{
 use Rattle.tree.specs.Forward.{same, outflow, fromBelow, pushed, distribution}
 use Rattle.rows.specs.Tables.{tab, entry, grid, any}
 use Rattle.rows.specs.Rows.{nodeIn, rowOf, rolled, rolledBack, anyOver, soiled, distributionRow}
-use Rattle.checks.specs.Tests.{poolBad, listsBad, recoveryBad, attachmentsBad, hazardsBad, discountsBad, accrualsBad, couponsBad, first, sheetTests}
+use Rattle.refusals.specs.Tests.{poolBad, listsBad, recoveryBad, attachmentsBad, hazardsBad, discountsBad, accrualsBad, couponsBad, first, sheetTests}
 use Rattle.figures.specs.Nodes.{nodeOf, jump}
 use Rattle.admission.specs.LentTests.{rowsBad, rowBad, offWalk, tenTests, walkTests}
 use Rattle.walk.specs.Calls.{
@@ -50,7 +50,8 @@ use Rattle.machine.specs.Transitions.{transitionOf}
 use Rattle.render.specs.Lines.{word, deckWord, fields, answerText, line, orderLine, deckLine}
 use Rattle.execution.specs.Effects.{entryEffect, orderEffect, effectOf}
 use Rattle.interpreter.specs.ListingFrom.{listingFrom}
-use Rattle.deck.specs.Listing.{listing}
+use Rattle.interpreter.specs.RegisterFrom.{registerFrom}
+use Rattle.deck.specs.Listing.{listingOn, registerAfter}
 use Rattle.decks.specs.Limits.{times}
 
 -- what makes a line of an answer
@@ -114,5 +115,5 @@ unfolding paymentsComputed hedgesComputed legsComputed treeComputed rowsComputed
 engineComputed = tt
 
 unfoldable pub computed : Unit {0}
-unfolding engineComputed printed commandsComputed machineComputed entryEffect orderEffect effectOf listingFrom listing times
+unfolding engineComputed printed commandsComputed machineComputed entryEffect orderEffect effectOf listingFrom registerFrom listingOn registerAfter times
 computed = tt

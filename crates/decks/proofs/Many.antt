@@ -165,7 +165,7 @@ module _ (n : ℕ) (few : n ≤ 3650) (rest : List ℕ) where
   from-there : length rest ≤ 9 → listing deck ≡ listingFrom (8 * n + length rest) deck (9 * n) (full .state)
   from-there h =
       let commandsLeft : length deck ≡ n + (8 * n + length rest) = omega (arith, long) in
-      sym (Printing.sized deck (omega (arith, long)))
+      sym (Printing.sized _ deck (omega (arith, long)))
       ∙ ap (λ (k : ℕ). listingFrom k deck 0 freshMachine) commandsLeft
       ∙ full .prints
       ∙ ap (λ (k : ℕ). listingFrom (8 * n + length rest) deck k (full .state)) (zero-add (9 * n))
@@ -225,7 +225,7 @@ unknown s = refl
 
 pub bytes : (s : List ℕ) → length s ≤ 65535 → listing (0 ∷ s) ≡ unknownFirst
 bytes s h =
-    sym (Printing.sized (0 ∷ s) (omega arith)) ∙ last (0 ∷ s) 0 freshMachine (length s) (deckLine 18 0) (omega arith) (unknown s) ∙ unknown-line
+    sym (Printing.sized _ (0 ∷ s) (omega arith)) ∙ last (0 ∷ s) 0 freshMachine (length s) (deckLine 18 0) (omega arith) (unknown s) ∙ unknown-line
 
 pub one-byte-more : (s : List ℕ) → 65536 ≤ length s → listing (0 ∷ s) ≡ oversized
-one-byte-more s h = sym (Printing.oversized (0 ∷ s) (omega arith)) ∙ oversized-line
+one-byte-more s h = sym (Printing.oversized _ (0 ∷ s) (omega arith)) ∙ oversized-line

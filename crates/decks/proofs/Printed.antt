@@ -1,6 +1,8 @@
 -- What decks print, by computation; of the longest by laws.
-use mathlib.Core.Path.{refl}
+use mathlib.Core.Path.{refl, sym}
 use native.Mathlib.Omega.{arith}
+use Rattle.deck.proofs.Printing as Printing
+use Rattle.decks.specs.Registers.{RegistersLeft}
 use Rattle.decks.specs.Printed.{CallListings, OpenListings, RatioListings, FullListings, LongListings, DeckListings}
 use Rattle.decks.proofs.Computing.{computed}
 use Rattle.decks.proofs.Many as Many
@@ -70,3 +72,17 @@ long =
 
 pub printed : DeckListings
 printed = record { called = called; opened = opened; compared = compared; filled = filled; long = long }
+
+pub registers : RegistersLeft
+unfolding computed
+registers =
+    record {
+      worked = refl;
+      again = refl;
+      again-left = refl;
+      stopped = refl;
+      stopped-again = refl;
+      short = refl;
+      short-left = refl;
+      oversized = λ register deck h. sym (Printing.oversized-left register deck h);
+    }

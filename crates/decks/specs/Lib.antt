@@ -1,3 +1,4 @@
 pub mod Calls
 pub mod Limits
 pub mod Printed
+pub mod Registers

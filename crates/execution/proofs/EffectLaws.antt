@@ -26,7 +26,7 @@ use Rattle.execution.specs.Effects.{Effect, stop, goOn, entryEffect, ord
 use Rattle.execution.specs.Executions.{LastLine, effectBy, machineAt, Execution}
 use Rattle.execution.proofs.LineWidths.{line-short}
 
-true-not-false : {b : Bool} → b ≡ true → b ≡ false → ⊥
+pub true-not-false : {b : Bool} → b ≡ true → b ≡ false → ⊥
 true-not-false p q = subst T (sym p ∙ q) tt
 
 -- the same effect

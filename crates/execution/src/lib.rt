@@ -1,5 +1,6 @@
 // One command executed: a refusal, an entry or an order, by what stands at an offset of the deck.
 ghost use mathlib.Core.Path.{_≡_};
+ghost use mathlib.Core.Bool.{true, false};
 ghost use mathlib.Core.List.{List};
 ghost use Prim.Native.Nat.{ℕ, _+_, _^_, _≤_, _<_};
 ghost use lib.ListN.{length};
@@ -91,15 +92,16 @@ fn obey(
     out: &mut [u8],
 ) -> Progress
     requires { ⌜ from .at < 2 ^ 63 ⌝ }
-    requires { ⌜ RoomLengths (now register) (now defaults) (now premiums) (now row) ⌝ }
+    requires { ⌜ RoomLengths (now defaults) (now premiums) (now row) ⌝ }
     requires { ⌜ from .end + 96 ≤ length (now out) ⌝ }
-    ensures lengths { λ r. ⌜ RoomLengths (now (register .exit)) (now (defaults .exit)) (now (premiums .exit)) (now (row .exit)) ⌝ }
+    ensures lengths { λ r. ⌜ RoomLengths (now (defaults .exit)) (now (premiums .exit)) (now (row .exit)) ⌝ }
     ensures layout { λ r. ⌜ r .layout ≡ from .layout ⌝ }
     ensures executes { λ r. ⌜ Execution
         (orderEffect order (from .at)
         (machineAt from (now (numbers .entry)) (now (register .entry)) (now (defaults .entry)) (now (premiums .entry)) (now (row .entry))))
         from (now (out .entry)) (now (out .exit)) r
         (machineAt r (now (numbers .entry)) (now (register .exit)) (now (defaults .exit)) (now (premiums .exit)) (now (row .exit))) ⌝ }
+    ensures goes { λ r. ⌜ r .stopped ≡ false ⌝ }
 {
     let layout = from.layout;
     let response = orders::act(
@@ -136,15 +138,16 @@ pub fn execute(
 ) -> Progress
     requires { ⌜ from .at < length (now deck) ⌝ }
     requires { ⌜ LayoutLimits (from .layout) (now numbers) ⌝ }
-    requires { ⌜ RoomLengths (now register) (now defaults) (now premiums) (now row) ⌝ }
+    requires { ⌜ RoomLengths (now defaults) (now premiums) (now row) ⌝ }
     requires { ⌜ from .end + 96 ≤ length (now out) ⌝ }
     ensures limits { λ r. ⌜ LayoutLimits (r .layout) (now (numbers .exit)) ⌝ }
-    ensures lengths { λ r. ⌜ RoomLengths (now (register .exit)) (now (defaults .exit)) (now (premiums .exit)) (now (row .exit)) ⌝ }
+    ensures lengths { λ r. ⌜ RoomLengths (now (defaults .exit)) (now (premiums .exit)) (now (row .exit)) ⌝ }
     ensures executes { λ r. ⌜ Execution
         (effectOf (commandAt (now (deck .entry)) (from .at)) (from .at)
         (machineAt from (now (numbers .entry)) (now (register .entry)) (now (defaults .entry)) (now (premiums .entry)) (now (row .entry))))
         from (now (out .entry)) (now (out .exit)) r
         (machineAt r (now (numbers .exit)) (now (register .exit)) (now (defaults .exit)) (now (premiums .exit)) (now (row .exit))) ⌝ }
+    ensures stays { λ r. ⌜ (r .stopped ≡ true → now (register .exit) ≡ now (register .entry)) ⌝ }
 {
     match commands::command_at(deck, from.at) {
         Command::Unknown => {

@@ -4,51 +4,21 @@ ghost use mathlib.Core.Path.{_≡_};
 ghost use Prim.Native.Nat.{_<_};
 ghost use lib.ListN.{length};
 ghost use Rattle.deck.specs.declared.Ran.the-variants.{NoRoom};
-ghost use Rattle.deck.specs.Listing.{room, printing};
+ghost use Rattle.deck.specs.Listing.{room, printing, printingOn, registerLeft};
 ghost use Rattle.register.specs.Register.{issueAnswer, issueLeaves, withdrawAnswer, withdrawLeaves};
 ghost use Rattle.sheet.specs.Spans.{broughtIn};
 ghost use Rattle.walk.specs.Answers.{saidOf, saidBy};
 ghost use Rattle.rows.specs.Rows.{rowsOf};
 ghost use Rattle.walk.specs.Calls.{openCall, backCall, valueCall, ratioCall, forwardCall};
-ghost use Rattle.export.specs.Figures.{bytesIn};
-ghost use Rattle.export.specs.Returns.{opened, moved, valued, hedged, returned};
+ghost use Rattle.export.specs.Bytes.{bytesIn};
+ghost use Rattle.returns.specs.Returns.{opened, moved, valued, hedged, returned};
+use deck::Ran;
+use returns::Hedged;
+use returns::Moved;
+use returns::Opened;
+use returns::Valued;
 use sheet::Sheet;
 use walk::Walk;
-
-mod values; // values.rt: enums taken apart
-
-// What open answers.
-#[repr(C)]
-pub struct Opened {
-    pub number: u8,
-    pub walk: Walk,
-}
-
-// What back answers: the new position, 0 if refused.
-#[repr(C)]
-pub struct Moved {
-    pub number: u8,
-    pub position: usize,
-    pub walk: Walk,
-}
-
-// What value answers: D, A and W, each 0 if refused.
-#[repr(C)]
-pub struct Valued {
-    pub number: u8,
-    pub default: u64,
-    pub premium: u64,
-    pub net: i64,
-    pub walk: Walk,
-}
-
-// What hedge ratio answers: the ratio in millionths, 0 if refused.
-#[repr(C)]
-pub struct Hedged {
-    pub number: u8,
-    pub ratio: i64,
-    pub walk: Walk,
-}
 
 // Makes an unissued number live.
 #[no_mangle]
@@ -86,7 +56,7 @@ pub extern "C" fn lavroudem_open(
     let answer = reply.answer;
     let left = reply.walk;
     Opened {
-        number: values::number_in(answer),
+        number: returns::number_in(answer),
         walk: left,
     }
 }
@@ -110,8 +80,8 @@ pub extern "C" fn lavroudem_back(
     let answer = reply.answer;
     let left = reply.walk;
     Moved {
-        number: values::number_in(answer),
-        position: values::position_in(answer),
+        number: returns::number_in(answer),
+        position: returns::position_in(answer),
         walk: left,
     }
 }
@@ -136,10 +106,10 @@ pub extern "C" fn lavroudem_value(
     let answer = reply.answer;
     let left = reply.walk;
     Valued {
-        number: values::number_in(answer),
-        default: values::default_in(answer),
-        premium: values::premium_in(answer),
-        net: values::net_in(answer),
+        number: returns::number_in(answer),
+        default: returns::default_in(answer),
+        premium: returns::premium_in(answer),
+        net: returns::net_in(answer),
         walk: left,
     }
 }
@@ -164,8 +134,8 @@ pub extern "C" fn lavroudem_hedge_ratio(
     let answer = reply.answer;
     let left = reply.walk;
     Hedged {
-        number: values::number_in(answer),
-        ratio: values::ratio_in(answer),
+        number: returns::number_in(answer),
+        ratio: returns::ratio_in(answer),
         walk: left,
     }
 }
@@ -184,7 +154,7 @@ pub extern "C" fn lavroudem_forward(
     ensures leaves { λ _. ⌜ now (row .exit)
         ≡ forwardCall (broughtIn sheet (now (numbers .entry))) (now (register .entry)) (now (row .entry)) steps .row ⌝ }
 {
-    values::number_in(walk::forward(sheet, numbers, register, row, steps))
+    returns::number_in(walk::forward(sheet, numbers, register, row, steps))
 }
 
 // The room that the listing of a deck of so many bytes may take.
@@ -195,6 +165,16 @@ pub extern "C" fn lavroudem_deck_room(bytes: usize) -> usize
     deck::room(bytes)
 }
 
+// The bytes that a deck printed, or the highest number where there was no room.
+fn bytes_in(ran: Ran) -> usize
+    ensures { λ r. ⌜ r ≡ bytesIn ran ⌝ }
+{
+    match ran {
+        Ran::Printed(bytes) => bytes,
+        Ran::NoRoom => 0xFFFF_FFFF_FFFF_FFFF,
+    }
+}
+
 // Prints the listing of a deck at the start of out, and answers its bytes; or 2^64 - 1, where out is shorter than the deck's room and nothing is
 // written.
 #[no_mangle]
@@ -203,5 +183,16 @@ pub extern "C" fn lavroudem_run_deck(deck: &[u8], out: &mut [u8]) -> usize
     ensures leaves { λ _. ⌜ now (out .exit) ≡ printing (now (deck .entry)) (now (out .entry)) .out ⌝ }
     ensures apart { λ r. ⌜ (r ≡ bytesIn NoRoom → length (now (out .entry)) < room (length (now (deck .entry)))) ⌝ }
 {
-    values::bytes_in(deck::run(deck, out))
+    bytes_in(deck::run(deck, out))
+}
+
+// The same on a register that is lent, of any length: it is left as the deck's issues and withdrawals leave it, and as it was where there is no room.
+#[no_mangle]
+pub extern "C" fn lavroudem_run_on(deck: &[u8], register: &mut [u8], out: &mut [u8]) -> usize
+    ensures said { λ r. ⌜ r ≡ bytesIn (printingOn (now (register .entry)) (now (deck .entry)) (now (out .entry)) .answer) ⌝ }
+    ensures prints { λ _. ⌜ now (out .exit) ≡ printingOn (now (register .entry)) (now (deck .entry)) (now (out .entry)) .out ⌝ }
+    ensures leaves { λ _. ⌜ now (register .exit) ≡ registerLeft (now (register .entry)) (now (deck .entry)) (now (out .entry)) ⌝ }
+    ensures apart { λ r. ⌜ (r ≡ bytesIn NoRoom → length (now (out .entry)) < room (length (now (deck .entry)))) ⌝ }
+{
+    bytes_in(deck::run_on(deck, register, out))
 }

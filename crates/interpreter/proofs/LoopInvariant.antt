@@ -18,6 +18,7 @@ use Rattle.execution.specs.declared.Progress.{Progress}
 use Rattle.execution.specs.Effects.{stop, goOn, effectOf}
 use Rattle.execution.specs.Executions.{startProgress, machineAt, effectBy, Execution}
 use Rattle.interpreter.specs.ListingFrom.{listingFrom}
+use Rattle.interpreter.specs.RegisterFrom.{registerFrom}
 
 module _ (deck : List ℕ) (at : ℕ) (m : Machine) where
   pub past : (commands : ℕ) → length deck ≤ at → listingFrom commands deck at m ≡ []
@@ -25,24 +26,45 @@ module _ (deck : List ℕ) (at : ℕ) (m : Machine) where
   past zero h = refl
   past (suc n) h = rw (le-ltb at (length deck) h, listingFrom)
 
+  pub left-past : (commands : ℕ) → length deck ≤ at → registerFrom commands deck at m ≡ m .register
+  unfolding registerFrom
+  left-past zero h = refl
+  left-past (suc n) h = rw (le-ltb at (length deck) h, registerFrom)
+
   pub on : (n : ℕ) (text : List ℕ) (next : ℕ) (t : Machine) → at < length deck → effectOf (commandAt deck at) at m ≡ goOn text next t →
       listingFrom (suc n) deck at m ≡ text ++ listingFrom n deck next t
   unfolding listingFrom
   on n text next t h e = rw (lt-ltb at (length deck) h, listingFrom) (rw e)
 
+  pub left-on : (n : ℕ) (text : List ℕ) (next : ℕ) (t : Machine) → at < length deck → effectOf (commandAt deck at) at m ≡ goOn text next t →
+      registerFrom (suc n) deck at m ≡ registerFrom n deck next t
+  unfolding registerFrom
+  left-on n text next t h e = rw (lt-ltb at (length deck) h, registerFrom) (rw e)
+
   pub last : (n : ℕ) (text : List ℕ) → at < length deck → effectOf (commandAt deck at) at m ≡ stop text → listingFrom (suc n) deck at m ≡ text
   unfolding listingFrom
   last n text h e = rw (lt-ltb at (length deck) h, listingFrom) (rw e)
 
--- Where the loop stands: all that is to be printed is what stands in out, up to its end, and what the rest of the deck prints.
-pub record Invariant (all deck before out : List ℕ) (p : Progress) (m : Machine) : Type 0 where
+  pub left-last : (n : ℕ) (text : List ℕ) → at < length deck → effectOf (commandAt deck at) at m ≡ stop text →
+      registerFrom (suc n) deck at m ≡ m .register
+  unfolding registerFrom
+  left-last n text h e = rw (lt-ltb at (length deck) h, registerFrom) (rw e)
+
+-- Where the loop stands: all that is to be printed is what stands in out, up to its end, and what the rest of the deck prints; the register that is
+-- to be left is what the rest leaves.
+pub record Invariant (all left deck before out : List ℕ) (p : Progress) (m : Machine) : Type 0 where
   pub commands : ℕ
   pub enough : length deck ≤ p .at + commands
   pub text : List ℕ
   pub wrote : Wrote before 0 text out (p .end)
   pub rest : all ≡ text ++ listingFrom commands deck (p .at) m
+  pub kept : left ≡ registerFrom commands deck (p .at) m
   pub room : p .end ≤ 32 * p .at
   pub within : p .end ≤ length before
+
+-- Where it ends: all was written, and the register is what was to be left.
+abbrev pub Finished : (all left before out : List ℕ) → Progress → List ℕ → Type 0
+Finished all left before out p register = Wrote before 0 all out (p .end) × (p .end ≤ length before) × (register ≡ left)
 
 -- the machine at the start has no entries
 start-machine : (numbers register ds ps row : List ℕ) →
@@ -55,9 +77,11 @@ start-limits numbers e long =
     let h : LayoutLimits emptyLayout numbers = omega arith in subst (λ (q : Progress). LayoutLimits (q .layout) numbers) (sym e) h
 
 pub holds-at-start : (deck out numbers register ds ps row : List ℕ) {p : Progress} → p ≡ startProgress →
-    Invariant (listingFrom (length deck) deck 0 (machineOf emptyDraft register fresh ds ps row)) deck out out p (machineAt p numbers register ds ps row)
+    Invariant (listingFrom (length deck) deck 0 (machineOf emptyDraft register fresh ds ps row))
+    (registerFrom (length deck) deck 0 (machineOf emptyDraft register fresh ds ps row)) deck out out p (machineAt p numbers register ds ps row)
 holds-at-start deck out numbers register ds ps row e =
-    subst (λ (q : Progress). Invariant (listingFrom (length deck) deck 0 (machineOf emptyDraft register fresh ds ps row)) deck out out q
+    let m = machineOf emptyDraft register fresh ds ps row in
+    subst (λ (q : Progress). Invariant (listingFrom (length deck) deck 0 m) (registerFrom (length deck) deck 0 m) deck out out q
     (machineAt q numbers register ds ps row)) (sym e)
     (record {
       commands = length deck;
@@ -65,24 +89,25 @@ holds-at-start deck out numbers register ds ps row e =
       text = [];
       wrote = wrote-none out 0;
       rest = ap (listingFrom (length deck) deck 0) (sym (start-machine numbers register ds ps row));
+      kept = ap (registerFrom (length deck) deck 0) (sym (start-machine numbers register ds ps row));
       room = omega arith;
       within = omega arith;
     })
 
 -- there is room for one more line
-pub line-fits : {all deck before out : List ℕ} {p : Progress} {m : Machine} → Invariant all deck before out p m → p .at < length deck →
+pub line-fits : {all left deck before out : List ℕ} {p : Progress} {m : Machine} → Invariant all left deck before out p m → p .at < length deck →
     32 * length deck + 96 ≤ length before → p .end + 96 ≤ length out
 line-fits r h long = omega (arith, r .room, wrote-long (r .wrote))
 
-module _ (all deck before out after : List ℕ) (p : Progress) (m t : Machine) (r : Progress) (h : p .at < length deck)
+module _ (all left deck before out after : List ℕ) (p : Progress) (m t : Machine) (r : Progress) (h : p .at < length deck)
     (long : 32 * length deck + 96 ≤ length before) (g : Execution (effectOf (commandAt deck (p .at)) (p .at) m) p out after r t) where
   effect-as : {b : Bool} → r .stopped ≡ b → effectOf (commandAt deck (p .at)) (p .at) m ≡ effectBy b (g .text) (r .at) t
   effect-as q = g .effect-is ∙ ap (λ (b : Bool). effectBy b (g .text) (r .at) t) q
 
   step-on : (n : ℕ) → length deck ≤ p .at + n → (text : List ℕ) → Wrote before 0 text out (p .end) → all ≡ text ++ listingFrom n deck (p .at) m →
-      p .end ≤ 32 * p .at → r .stopped ≡ false → Invariant all deck before after r t
-  step-on zero en text wr rest room q = absurd (omega arith)
-  step-on (suc n) en text wr rest room q =
+      left ≡ registerFrom n deck (p .at) m → p .end ≤ 32 * p .at → r .stopped ≡ false → Invariant all left deck before after r t
+  step-on zero en text wr rest kept room q = absurd (omega arith)
+  step-on (suc n) en text wr rest kept room q =
       record {
         commands = n;
         enough = omega (arith, g .onward q);
@@ -91,27 +116,30 @@ module _ (all deck before out after : List ℕ) (p : Progress) (m t : Machine) (
         rest =
             rest ∙ ap (λ (l : List ℕ). text ++ l) (on deck (p .at) m n (g .text) (r .at) t h (effect-as q))
             ∙ sym (append-assoc text (g .text) (listingFrom n deck (r .at) t));
+        kept = kept ∙ left-on deck (p .at) m n (g .text) (r .at) t h (effect-as q);
         room = omega (arith, g .short q);
         within = omega (arith, g .room);
       }
 
   step-last : (n : ℕ) → length deck ≤ p .at + n → (text : List ℕ) → Wrote before 0 text out (p .end) → all ≡ text ++ listingFrom n deck (p .at) m →
-      p .end ≤ 32 * p .at → r .stopped ≡ true → Wrote before 0 all after (r .end) × (r .end ≤ length before)
-  step-last zero en text wr rest room q = absurd (omega arith)
-  step-last (suc n) en text wr rest room q = (
+      left ≡ registerFrom n deck (p .at) m → p .end ≤ 32 * p .at → r .stopped ≡ true → Finished all left before after r (m .register)
+  step-last zero en text wr rest kept room q = absurd (omega arith)
+  step-last (suc n) en text wr rest kept room q = (
     wrote-text (sym (rest ∙ ap (λ (l : List ℕ). text ++ l) (last deck (p .at) m n (g .text) h (effect-as q)))) (wrote-both wr (g .wrote)),
     omega (arith, g .room),
+    sym (kept ∙ left-last deck (p .at) m n (g .text) h (effect-as q)),
   )
 
-  pub holds-on : Invariant all deck before out p m → r .stopped ≡ false → Invariant all deck before after r t
-  holds-on i q = step-on (i .commands) (i .enough) (i .text) (i .wrote) (i .rest) (i .room) q
+  pub holds-on : Invariant all left deck before out p m → r .stopped ≡ false → Invariant all left deck before after r t
+  holds-on i q = step-on (i .commands) (i .enough) (i .text) (i .wrote) (i .rest) (i .kept) (i .room) q
 
-  pub printed-last : Invariant all deck before out p m → r .stopped ≡ true → Wrote before 0 all after (r .end) × (r .end ≤ length before)
-  printed-last i q = step-last (i .commands) (i .enough) (i .text) (i .wrote) (i .rest) (i .room) q
+  pub finished-last : Invariant all left deck before out p m → r .stopped ≡ true → Finished all left before after r (m .register)
+  finished-last i q = step-last (i .commands) (i .enough) (i .text) (i .wrote) (i .rest) (i .kept) (i .room) q
 
-pub printed-all : {all deck before out : List ℕ} {p : Progress} {m : Machine} → Invariant all deck before out p m → length deck ≤ p .at →
-    Wrote before 0 all out (p .end) × (p .end ≤ length before)
-printed-all {deck = deck} {p = p} {m = m} i h = (
+pub finished-all : {all left deck before out : List ℕ} {p : Progress} {m : Machine} → Invariant all left deck before out p m → length deck ≤ p .at →
+    Finished all left before out p (m .register)
+finished-all {deck = deck} {p = p} {m = m} i h = (
   wrote-text (sym (i .rest ∙ ap (λ (l : List ℕ). i .text ++ l) (past deck (p .at) m (i .commands) h) ∙ append-nil (i .text))) (i .wrote),
   i .within,
+  sym (i .kept ∙ left-past deck (p .at) m (i .commands) h),
 )

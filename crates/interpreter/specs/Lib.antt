@@ -1,1 +1,2 @@
 pub mod ListingFrom
+pub mod RegisterFrom

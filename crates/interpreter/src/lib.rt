@@ -7,6 +7,7 @@ ghost use Rattle.walk.specs.Answers.{fresh};
 ghost use Rattle.entries.specs.Draft.{emptyDraft};
 ghost use Rattle.machine.specs.Machine.{machineOf, RoomLengths};
 ghost use Rattle.interpreter.specs.ListingFrom.{listingFrom};
+ghost use Rattle.interpreter.specs.RegisterFrom.{registerFrom};
 
 // Interprets a deck from its start, with no entries and a fresh walk, and answers how many bytes it printed.
 pub fn interpret(
@@ -19,13 +20,15 @@ pub fn interpret(
     out: &mut [u8],
 ) -> usize
     requires { ⌜ length (now numbers) ≡ 7443 ⌝ }
-    requires { ⌜ RoomLengths (now register) (now defaults) (now premiums) (now row) ⌝ }
+    requires { ⌜ RoomLengths (now defaults) (now premiums) (now row) ⌝ }
     requires { ⌜ 32 * length (now deck) + 96 ≤ length (now out) ⌝ }
     ensures writes { λ r. ⌜ Wrote (now (out .entry)) 0
         (listingFrom (length (now (deck .entry))) (now (deck .entry)) 0
         (machineOf emptyDraft (now (register .entry)) fresh (now (defaults .entry)) (now (premiums .entry)) (now (row .entry))))
         (now (out .exit)) r ⌝ }
     ensures within { λ r. ⌜ r ≤ length (now (out .entry)) ⌝ }
+    ensures leaves { λ _. ⌜ now (register .exit) ≡ registerFrom (length (now (deck .entry))) (now (deck .entry)) 0
+        (machineOf emptyDraft (now (register .entry)) fresh (now (defaults .entry)) (now (premiums .entry)) (now (row .entry))) ⌝ }
 {
     let mut progress = execution::start();
     while progress.at < deck.len() {

@@ -23,17 +23,20 @@ abbrev pub machineOf : Draft → List ℕ → Walk → List ℕ → List ℕ →
 machineOf g register w defaults premiums row =
     record { draft = g; register = register; walk = w; rooms = rowsOf defaults premiums; row = row }
 
--- A run starts with a blank register and a fresh walk. The rooms take the rows of the largest sheet: 9 × 126 numbers, and 126 forward.
+-- A run on a register starts with no entries and a fresh walk. The rooms take the rows of the largest sheet: 9 × 126 numbers, and 126 forward.
+abbrev pub machineOn : List ℕ → Machine
+machineOn register = machineOf emptyDraft register fresh (replicate 1134 0) (replicate 1134 0) (replicate 126 0)
+
+-- That of the program has a blank register.
 abbrev pub freshMachine : Machine
-freshMachine = machineOf emptyDraft Register.blankRegister fresh (replicate 1134 0) (replicate 1134 0) (replicate 126 0)
+freshMachine = machineOn Register.blankRegister
 
 -- The machine that the code's figures and arrays stand for.
 abbrev pub machineIn : Layout → Walk → List ℕ → List ℕ → List ℕ → List ℕ → List ℕ → Machine
 machineIn l w numbers register defaults premiums row = machineOf (draftIn l numbers) register w defaults premiums row
 
--- The register and the rooms have their lengths.
-pub record RoomLengths (register defaults premiums row : List ℕ) : Type 0 where
-  pub register-long : length register ≡ 256
+-- The rooms have their lengths. A register of another length is refused by each call that reads it (2).
+pub record RoomLengths (defaults premiums row : List ℕ) : Type 0 where
   pub defaults-long : length defaults ≡ 1134
   pub premiums-long : length premiums ≡ 1134
   pub row-long : length row ≡ 126

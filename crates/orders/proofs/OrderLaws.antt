@@ -112,14 +112,11 @@ module _ (o : Order) (e : Draft) (w : Walk) (register ds ps row : List ℕ) wher
   unfolding transitionOf
   forward-acts q p = ap (λ (t : ForwardResult). record { said = t .said; next = machineOf e register w ds ps (t .row) }) p ∙ as-is q
 
--- ---- the register and the rooms keep their lengths
+-- ---- the rooms keep their lengths
 
-module _ {register ds ps row : List ℕ} (p : RoomLengths register ds ps row) where
-  pub lengths-register : {register′ : List ℕ} → length register′ ≡ length register → RoomLengths register′ ds ps row
-  lengths-register e = omega (arith, e, p)
-
-  pub lengths-rooms : {ds′ ps′ : List ℕ} → length ds′ ≡ length ds → length ps′ ≡ length ps → RoomLengths register ds′ ps′ row
+module _ {ds ps row : List ℕ} (p : RoomLengths ds ps row) where
+  pub lengths-rooms : {ds′ ps′ : List ℕ} → length ds′ ≡ length ds → length ps′ ≡ length ps → RoomLengths ds′ ps′ row
   lengths-rooms e f = omega (arith, e, f, p)
 
-  pub lengths-row : {row′ : List ℕ} → length row′ ≡ length row → RoomLengths register ds ps row′
+  pub lengths-row : {row′ : List ℕ} → length row′ ≡ length row → RoomLengths ds ps row′
   lengths-row e = omega (arith, e, p)

@@ -137,8 +137,8 @@ pub fn act(
     premiums: &mut [u64],
     row: &mut [u64],
 ) -> Response
-    requires { ⌜ RoomLengths (now register) (now defaults) (now premiums) (now row) ⌝ }
-    ensures lengths { λ r. ⌜ RoomLengths (now (register .exit)) (now (defaults .exit)) (now (premiums .exit)) (now (row .exit)) ⌝ }
+    requires { ⌜ RoomLengths (now defaults) (now premiums) (now row) ⌝ }
+    ensures lengths { λ r. ⌜ RoomLengths (now (defaults .exit)) (now (premiums .exit)) (now (row .exit)) ⌝ }
     ensures acts { λ r. ⌜ transitionBy (r .answer)
         (machineIn layout (r .walk) (now (numbers .entry)) (now (register .exit)) (now (defaults .exit)) (now (premiums .exit)) (now (row .exit)))
         ≡ transitionOf order

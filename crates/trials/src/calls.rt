@@ -1,8 +1,8 @@
 // The calls on what a trial lends, each handing its walk to the next. They print the number that is answered, and the figures if it is 0.
-use crate::at;
-use crate::at::Trial;
-use crate::print;
 use sheet::Sheet;
+use trial::at;
+use trial::at::Trial;
+use trial::print;
 use walk::Walk;
 
 fn fresh() -> Walk {

@@ -1,8 +1,8 @@
 // Issue and withdraw with the byte that each leaves, and what a cut write may leave.
-use crate::at;
-use crate::lent;
-use crate::print;
-use crate::words;
+use trial::at;
+use trial::lent;
+use trial::print;
+use trial::words;
 
 // Issue over one byte and withdraw over another, in registers of a length.
 fn both(place: usize, value: u64, length: usize, unissued: u64, live: u64) {

@@ -1,15 +1,15 @@
 // The trial entries of document 01 that are not proved of the definitions, one line each, and every refusal beside what is just accepted.
-mod at; // at.rt: the numbers of a trial
 mod calls; // calls.rt: the calls, which print what they answer
 mod entries; // entries.rt: issue and withdraw, and what a cut write may leave
-mod lent; // lent.rt: what a trial lends
-mod print; // print.rt: numbers and answers
-mod words; // words.rt: the words of a trial's numbers
+mod sheets; // sheets.rt: the calls of a trial, on what it lends
 
-use at::Trial;
-use at::made_up;
-use at::walked;
-use at::with;
+use trial::at;
+use trial::at::Trial;
+use trial::at::made_up;
+use trial::at::walked;
+use trial::at::with;
+use trial::print;
+use trial::words;
 
 // Units in the whole pool.
 const B: u64 = 1_000_000_000;
@@ -22,7 +22,7 @@ fn edge(from: u64, to: u64, start: Trial, place: usize) {
     for value in from..=to {
         words::of(place);
         print::count(value);
-        lent::sheet(with(start, place, value));
+        sheets::sheet(with(start, place, value));
         print::end();
     }
 }

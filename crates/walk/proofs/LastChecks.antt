@@ -20,11 +20,11 @@ use Rattle.ceilings.proofs.Found.{unsoiled-rollable}
 use Rattle.sheet.specs.Brought.{Brought}
 use Rattle.sheet.specs.Limits.{TranchesWithin}
 use Rattle.sheet.proofs.Limits.{limits-terms}
-use Rattle.checks.specs.declared.Refusal.{Refusal}
-use Rattle.checks.specs.declared.Refusal.the-variants as Refusal
-use Rattle.checks.specs.declared.Found.the-variants.{Fine, Refused}
-use Rattle.checks.specs.Tests.{first, poolBad}
-use Rattle.checks.proofs.FirstTest.{first-none, first-met, first-passed}
+use Rattle.refusals.specs.declared.Refusal.{Refusal}
+use Rattle.refusals.specs.declared.Refusal.the-variants as Refusal
+use Rattle.refusals.specs.declared.Found.the-variants.{Fine, Refused}
+use Rattle.refusals.specs.Tests.{first, poolBad}
+use Rattle.refusals.proofs.FirstTest.{first-none, first-met, first-passed}
 use Rattle.walk.specs.declared.Walk.{Walk}
 use Rattle.walk.specs.declared.Answer.the-variants as Answer
 use Rattle.rows.specs.Rows as Lent

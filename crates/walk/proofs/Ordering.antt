@@ -18,9 +18,9 @@ use Rattle.tree.specs.Sheet.{defaultMost, premiumMost}
 use Rattle.rows.specs.Rows.{nodeIn, anyOver, soiled, Rows}
 use Rattle.sheet.specs.Brought.{Brought}
 use Rattle.sheet.specs.Limits.{ListsFit, Limits}
-use Rattle.checks.specs.Tests.{Test, listsBad, sheetTests}
-use Rattle.checks.proofs.Judged.{or-fine, most-fine, rise-fine, any-fine}
-use Rattle.checks.proofs.Meanings.{pool-fine, lengths-fine, recovery-fine, attachments-fine, hazards-fine, discounts-fine, accruals-fine, coupons-fine}
+use Rattle.refusals.specs.Tests.{Test, listsBad, sheetTests}
+use Rattle.refusals.proofs.Judged.{or-fine, most-fine, rise-fine, any-fine}
+use Rattle.refusals.proofs.Meanings.{pool-fine, lengths-fine, recovery-fine, attachments-fine, hazards-fine, discounts-fine, accruals-fine, coupons-fine}
 use Rattle.walk.specs.declared.Walk.{Walk}
 use Rattle.figures.specs.Nodes.{jump}
 use Rattle.walk.specs.RefusalOrders.{LentFit, ForwardFit, OnWalk, Clean, RefusalOrder, toTen, toTwelve, openOrder, backOrder, valueOrder, ratioOrder, forwardOrder}

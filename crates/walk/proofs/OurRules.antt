@@ -24,10 +24,10 @@ use Rattle.tree.proofs.Statements.{distribution-bounds}
 use Rattle.rows.specs.Rows.{distributionRow, Rows}
 use Rattle.rows.proofs.Tables.{length-tab, getD-tab}
 use Rattle.sheet.specs.Brought.{Brought}
-use Rattle.checks.specs.declared.Refusal.{Refusal}
-use Rattle.checks.specs.declared.Found.{Found}
-use Rattle.checks.specs.declared.Found.the-variants as Found
-use Rattle.checks.specs.Tests.{Test, first}
+use Rattle.refusals.specs.declared.Refusal.{Refusal}
+use Rattle.refusals.specs.declared.Found.{Found}
+use Rattle.refusals.specs.declared.Found.the-variants as Found
+use Rattle.refusals.specs.Tests.{Test, first}
 use Rattle.walk.specs.declared.Walk.{Walk}
 use Rattle.walk.specs.declared.Answer.the-variants.{Refused, Done, Position, Ratio}
 use Rattle.walk.specs.Answers.{saidOf, saidBy, accepted}

@@ -8,8 +8,8 @@ use Rattle.cash.specs.declared.Hedge.{Hedge}
 use Rattle.cash.specs.declared.Hedge.the-variants as Hedge
 use Rattle.register.specs.declared.answers.WriteAnswer as Register
 use Rattle.register.specs.Register.{numberOf}
-use Rattle.checks.specs.declared.Refusal.the-variants.{FlatHedge, OffScale}
-use Rattle.checks.specs.Refusals.{refusalNumber}
+use Rattle.refusals.specs.declared.Refusal.the-variants.{FlatHedge, OffScale}
+use Rattle.refusals.specs.Refusals.{refusalNumber}
 use Rattle.walk.specs.declared.Walk.{Walk}
 use Rattle.walk.specs.declared.Answer.{Answer}
 use Rattle.walk.specs.declared.Answer.the-variants.{Refused, Done, Position, Worth, Ratio}

@@ -9,10 +9,10 @@ use Rattle.cash.specs.Hedges.{netValue, ratioOf}
 use Rattle.tree.specs.Sheet.{defaultOf, premiumOf}
 use Rattle.rows.specs.Rows.{Rows, rowsOf, nodeIn, rowOf, rolledBack, distributionRow}
 use Rattle.sheet.specs.Brought.{Brought}
-use Rattle.checks.specs.declared.Refusal.the-variants.{OutOfSteps, OffTree, FlatHedge, OffScale}
-use Rattle.checks.specs.declared.Found.{Found}
-use Rattle.checks.specs.declared.Found.the-variants as Found
-use Rattle.checks.specs.Tests.{Test, first}
+use Rattle.refusals.specs.declared.Refusal.the-variants.{OutOfSteps, OffTree, FlatHedge, OffScale}
+use Rattle.refusals.specs.declared.Found.{Found}
+use Rattle.refusals.specs.declared.Found.the-variants as Found
+use Rattle.refusals.specs.Tests.{Test, first}
 use Rattle.walk.specs.declared.Walk.{Walk}
 use Rattle.walk.specs.declared.Answer.{Answer}
 use Rattle.walk.specs.declared.Answer.the-variants.{Refused, Done, Position, Worth, Ratio}

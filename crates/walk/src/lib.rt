@@ -8,8 +8,8 @@ ghost use Rattle.walk.specs.OurEngine.{walkResult, forwardResult};
 ghost use Rattle.walk.specs.Contracts.{Promised};
 ghost use Rattle.rows.specs.Rows.{rowsOf};
 ghost use Rattle.walk.specs.Calls.{replied, forwardOutcome, openCall, backCall, valueCall, ratioCall, forwardCall};
-use checks::Found;
-pub use checks::Refusal;
+use refusals::Found;
+pub use refusals::Refusal;
 pub use sheet::Pool;
 pub use sheet::Sheet;
 

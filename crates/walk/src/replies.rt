@@ -10,7 +10,7 @@ ghost use Rattle.walk.specs.Answers.{hedgeAnswer};
 ghost use Rattle.walk.specs.Calls.{worth};
 use crate::Answer;
 use cash::Hedge;
-use checks::Refusal;
+use refusals::Refusal;
 use sheet::Sheet;
 
 // D, A and W of a tranche at a count.

@@ -14,11 +14,11 @@ use Rattle.sheet.specs.Terms.{sumOf}
 use Rattle.tree.specs.Sheet.{defaultMost, premiumMost}
 use Rattle.rows.specs.Tables.{any}
 use Rattle.sheet.specs.Brought.{Brought}
-use Rattle.checks.specs.declared.Refusal.{Refusal}
-use Rattle.checks.specs.declared.Refusal.the-variants.{Pool}
-use Rattle.checks.specs.Refusals.{refusalNumber}
+use Rattle.refusals.specs.declared.Refusal.{Refusal}
+use Rattle.refusals.specs.declared.Refusal.the-variants.{Pool}
+use Rattle.refusals.specs.Refusals.{refusalNumber}
 use Rattle.lists.specs.Outside.{outside}
-use Rattle.checks.specs.Tests.{poolBad, Test, first}
+use Rattle.refusals.specs.Tests.{poolBad, Test, first}
 use Rattle.walk.specs.declared.Walk.{Walk}
 use Rattle.walk.specs.declared.Answer.the-variants as Answer
 use Rattle.rows.specs.Rows.{Rows}

@@ -10,7 +10,7 @@ use Rattle.tree.specs.Sheet.{hazardOf, discountOf, accrualOf, poolLossOf, lossO
 use Rattle.tree.specs.Forward.{same, outflow, fromBelow, pushed, distribution}
 use Rattle.rows.specs.Tables.{tab, entry, grid, any}
 use Rattle.rows.specs.Rows.{nodeIn, rowOf, rolled, rolledBack, anyOver, soiled, distributionRow}
-use Rattle.checks.specs.Tests.{poolBad, listsBad, recoveryBad, attachmentsBad, hazardsBad, discountsBad, accrualsBad, couponsBad, first, sheetTests}
+use Rattle.refusals.specs.Tests.{poolBad, listsBad, recoveryBad, attachmentsBad, hazardsBad, discountsBad, accrualsBad, couponsBad, first, sheetTests}
 use Rattle.figures.specs.Nodes.{nodeOf, jump}
 use Rattle.admission.specs.LentTests.{rowsBad, rowBad, offWalk, tenTests, walkTests}
 use Rattle.walk.specs.Calls.{openTests, backTests, valueTests, ratioTests, forwardTests, orOutcome, orForwardOutcome, zeros, rolls, openCall, backCall, worth, valueCall, ratioCall, forwardCall}

@@ -11,7 +11,7 @@ use Rattle.tree.specs.Forward.{lands, probability, apart, errors}
 use Rattle.tree.specs.Sheet.{spanning}
 use Rattle.tree.specs.Trials.{drifting}
 use Rattle.sheet.specs.Brought.{Brought, brought}
-use Rattle.checks.proofs.Limits.{limits}
+use Rattle.refusals.proofs.Limits.{limits}
 use Rattle.rows.specs.Rows.{Rows}
 use Rattle.walk.specs.Answers.{accepted}
 use Rattle.walk.specs.CallRules.{BackStep}

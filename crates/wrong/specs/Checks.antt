@@ -17,9 +17,9 @@ use Rattle.tree.specs.Sheet.{widthOf, defaultMost, premiumMost}
 use Rattle.rows.specs.Tables.{tab, any}
 use Rattle.rows.specs.Rows.{anyOver, soiled, distributionRow, Rows, rowsOf}
 use Rattle.sheet.specs.Brought.{Brought, brought}
-use Rattle.checks.specs.Refusals.{refusalNumber}
+use Rattle.refusals.specs.Refusals.{refusalNumber}
 use Rattle.lists.specs.Outside.{outside}
-use Rattle.checks.specs.Tests.{differs, Test, first}
+use Rattle.refusals.specs.Tests.{differs, Test, first}
 use Rattle.walk.specs.declared.Walk.{Walk}
 use Rattle.walk.specs.declared.Answer.the-variants as Answer
 use Rattle.walk.specs.Answers.{fresh}

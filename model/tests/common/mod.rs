@@ -1,10 +1,11 @@
 //! Plain sheets for the trials, by shape; random ones come by seed. A desk
-//! has what the calls are lent.
+//! has what the calls are lent, and edges are changes of one.
 
 // Each test file is built by itself and uses only a part of this.
 #![allow(dead_code, unused_imports)]
 
 pub mod desk;
+pub mod edges;
 
 pub use lavroudem_model::random::Random;
 use lavroudem_model::sheet::Sheet;

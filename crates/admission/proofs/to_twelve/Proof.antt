@@ -5,8 +5,8 @@ use mathlib.Core.Bool.{false}
 use mathlib.Core.List.{[]}
 use Rattle.sheet.specs.Brought.{Brought}
 use Rattle.sheet.specs.Spans.{broughtIn}
-use Rattle.checks.specs.declared.Found.the-variants.{Fine}
-use Rattle.checks.specs.Tests.{first, poolBad}
+use Rattle.refusals.specs.declared.Found.the-variants.{Fine}
+use Rattle.refusals.specs.Tests.{first, poolBad}
 use Rattle.rows.specs.Rows.{Rows, rowsOf}
 use Rattle.admission.specs.LentTests.{rowsBad, offWalk, tenTests}
 use Rattle.admission.proofs.Lengths.{rows-told}

@@ -6,9 +6,9 @@ use lib.ListN.{length}
 use Rattle.cash.specs.Units.{B}
 use Rattle.sheet.specs.Terms.{Terms}
 use Rattle.sheet.specs.Spans.{termsIn}
-use Rattle.checks.specs.Tests.{hazardsBad, discountsBad, accrualsBad}
-use Rattle.checks.proofs.FirstTest.{first-none, first-met, first-passed}
-use Rattle.checks.proofs.Lists.{hazards-told, discounts-told, accruals-part}
+use Rattle.refusals.specs.Tests.{hazardsBad, discountsBad, accrualsBad}
+use Rattle.refusals.proofs.FirstTest.{first-none, first-met, first-passed}
+use Rattle.faults.proofs.Lists.{hazards-told, discounts-told, accruals-part}
 use Rattle.checks.proofs.tree_refusal.Statement.{statement}
 use Rattle.checks.proofs.tree_refusal.Tie as tie
 

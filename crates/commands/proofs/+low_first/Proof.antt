@@ -20,6 +20,11 @@ abbrev low-first-below : ℕ → In 1 low-first-kinds.ps
 low-first-below t =
     and 1 low-first-kinds.ps (falls 1 low-first-kinds.ps _<_ μ-low-first t) low-first.Pre
 
+-- the start of a number that has bytes, seen from the first of them
+module _ {t : ℕ} (c : low-first-lts.After-shared-slice-known2 (low-first-below t, low-first.Post) (low-first-at t) low-first.Post) where
+  abbrev start : low-first-lts.Start (low-first-below t, low-first.Post) (low-first-at t) low-first.Post
+  start = c .before .before .before
+
 low-first-shared-slice-read-result : (t : ℕ) → low-first-lts.Need-shared-slice-read-result (
   low-first-below t,
   low-first.Post,
@@ -30,7 +35,7 @@ low-first-cast-result : (t : ℕ) → low-first-lts.Need-cast-result (
   low-first-below t,
   low-first.Post,
 ) (low-first-at t) low-first.Post
-low-first-cast-result t c = omega (arith, c .shared-slice-known2 .given (c .before .before .before .args .at))
+low-first-cast-result t c = omega (arith, c .shared-slice-known2 .given (start c .args .at))
 
 low-first-add-low-first : (t : ℕ) → low-first-lts.Need-add-low-first (
   low-first-below t,
@@ -56,9 +61,7 @@ low-first-mul-result :
     (low-first-below t, low-first.Post)
     (low-first-at t)
     low-first.Post
-low-first-mul-result t c =
-    let s = c .before .before .before .before in
-    omega (arith, four _ _ (omega arith) (c .low-first .ensures .1))
+low-first-mul-result t c = omega (arith, four _ _ (omega arith) (c .low-first .ensures .1))
 
 low-first-add-result :
     (t : ℕ) →
@@ -67,8 +70,7 @@ low-first-add-result :
     (low-first-at t)
     low-first.Post
 low-first-add-result t c =
-    let s = c .before .before .before .before in
-    omega (arith, four _ _ (omega arith) (c .low-first .ensures .1), c .before .shared-slice-known2 .given (s .args .at))
+    omega (arith, four _ _ (omega arith) (c .low-first .ensures .1), c .before .shared-slice-known2 .given (start (c .before) .args .at))
 
 low-first-returns :
     (t : ℕ) →
@@ -82,8 +84,7 @@ low-first-returns-2 :
     (low-first-at t)
     low-first.Post
 low-first-returns-2 t c =
-    let s = c .before .before .before .before in
-    let a = s .args in
+    let a = start (c .before) .args in
     more (a .width) (a .deck .now) (a .at) (c .low-first .result) (c .before .before .if1 .left) (c .before .shared-slice-known2 .given (a .at) .fits) (c .low-first .ensures .0) (c .low-first .ensures .1)
 
 pub +low-first-spec : {M : Type 1} → statement M

@@ -8,6 +8,10 @@ use borrow.Author.Needs.{needs}
 use Rattle.commands.proofs.decode_entry.Statement.{statement}
 use Rattle.commands.proofs.decode_entry.Tie as tie
 
+-- the byte of a pool, seen from behind its count of tranches
+abbrev pool-byte : tie.After-low-first3 → tie.At-match-keys1
+pool-byte t = t .before .before .before
+
 low-first-requires : tie.Need-low-first-requires
 unfolding operands
 low-first-requires c κs = omega (arith, ap operands (c .match .keys1))
@@ -31,14 +35,14 @@ add-low-first-3 c = search needs
 
 low-first-requires-4 : tie.Need-low-first-requires-4
 unfolding operands
-low-first-requires-4 c κs = omega (arith, ap operands (c .before .before .before .match .keys1))
+low-first-requires-4 c κs = omega (arith, ap operands (pool-byte c .match .keys1))
 
 add-t15 : tie.Need-add-t15
 add-t15 c = search needs
 
 shared-slice-read-t17 : tie.Need-shared-slice-read-t17
 unfolding operands
-shared-slice-read-t17 c = omega (arith, ap operands (c .before .before .before .before .before .match .keys1))
+shared-slice-read-t17 c = omega (arith, ap operands (pool-byte (c .before .before) .match .keys1))
 
 low-first-requires-5 : tie.Need-low-first-requires-5
 unfolding operands
@@ -65,8 +69,11 @@ low-first-requires-9 c κs = omega (arith, ap operands (c .match .keys5))
 
 returns : tie.Need-returns
 returns c =
-    let a = c .before .before .before .before .before .before .before .args in
-    pool (a .deck .now) (a .b) (c .before .before .before .before .before .match .keys1) (c .before .before .before .before .low-first .ensures .0) (c .before .before .before .low-first2 .ensures .0) (c .before .before .low-first3 .ensures .0) (c .before .low-first4 .ensures .0)
+    let tranches = c .before .before in
+    let byte = pool-byte tranches in
+    let a = byte .before .before .args in
+    pool (a .deck .now) (a .b) (byte .match .keys1) (tranches .before .before .low-first .ensures .0) (tranches .before .low-first2 .ensures .0)
+    (tranches .low-first3 .ensures .0) (c .before .low-first4 .ensures .0)
 
 returns-2 : tie.Need-returns-2
 returns-2 c =

@@ -5,6 +5,10 @@ use borrow.Author.Needs.{needs}
 use Rattle.entries.proofs.add.Statement.{statement}
 use Rattle.entries.proofs.add.Tie as tie
 
+-- the start, seen from the match; in each arm `known` is where its entry is known
+abbrev start : tie.After-sheet → tie.Start
+start m = m .before .before
+
 enum-known-entry : tie.Need-enum-known-entry
 enum-known-entry c = search needs
 
@@ -13,8 +17,9 @@ pool-figures-requires c κs = search needs
 
 returns : tie.Need-returns
 returns c =
-    let s = c .before .before .before .before .before .before in
-    pool-adds (s .args .entry) (s .args .layout) (s .args .numbers .now) (s .pre .0) (s .pre .1) (c .before .before .entry .given .1) (c .pool-figures .ensures)
+    let known = c .before .before in
+    let s = start (known .before .before) in
+    pool-adds (s .args .entry) (s .args .layout) (s .args .numbers .now) (s .pre .0) (s .pre .1) (known .entry .given .1) (c .pool-figures .ensures)
 
 enum-known-entry-2 : tie.Need-enum-known-entry-2
 enum-known-entry-2 c = search needs
@@ -27,10 +32,12 @@ same-length c = search needs
 
 returns-2 : tie.Need-returns-2
 returns-2 c =
-    let s = c .before .before .before .before .before .before .before .before .before in
-    let t = c .before .before .append .ensures in
+    let appended = c .before .before in
+    let known = appended .before .before .before in
+    let s = start (known .before .before) in
+    let t = appended .append .ensures in
     attachment-adds (s .args .entry) (s .args .layout) (s .args .numbers .now) (s .pre .0) (s .pre .1)
-    (c .before .before .before .before .before .entry2 .given .1) (t .0) (t .1)
+    (known .entry2 .given .1) (t .0) (t .1)
 
 enum-known-entry-3 : tie.Need-enum-known-entry-3
 enum-known-entry-3 c = search needs
@@ -43,10 +50,12 @@ same-length-2 c = search needs
 
 returns-3 : tie.Need-returns-3
 returns-3 c =
-    let s = c .before .before .before .before .before .before .before .before .before in
-    let t = c .before .before .append2 .ensures in
+    let appended = c .before .before in
+    let known = appended .before .before .before in
+    let s = start (known .before .before) in
+    let t = appended .append2 .ensures in
     hazard-adds (s .args .entry) (s .args .layout) (s .args .numbers .now) (s .pre .0) (s .pre .1)
-    (c .before .before .before .before .before .entry3 .given .1) (t .0) (t .1)
+    (known .entry3 .given .1) (t .0) (t .1)
 
 enum-known-entry-4 : tie.Need-enum-known-entry-4
 enum-known-entry-4 c = search needs
@@ -62,23 +71,27 @@ same-length-3 c = search needs
 
 returns-4 : tie.Need-returns-4
 returns-4 c =
-    let s = c .before .before .before .before .before .before .before .before .before .before .before .before .before in
-    let t = c .before .before .before .before .before .before .append3 .ensures in
-    let u = c .before .before .append4 .ensures in
+    let accrual = c .before .before in
+    let discount = accrual .before .before .before .before in
+    let known = discount .before .before .before in
+    let s = start (known .before .before) in
+    let t = discount .append3 .ensures in
+    let u = accrual .append4 .ensures in
     step-adds (s .args .entry) (s .args .layout) (s .args .numbers .now) (s .pre .0) (s .pre .1)
-    (c .before .before .before .before .before .before .before .before .before .entry4 .given .1) (t .0) (t .1) (u .0) (u .1)
+    (known .entry4 .given .1) (t .0) (t .1) (u .0) (u .1)
 
 enum-known-entry-5 : tie.Need-enum-known-entry-5
 enum-known-entry-5 c = search needs
 
 append-requires-5 : tie.Need-append-requires-5
 append-requires-5 c κs =
-    let s = c .before .before .before .before .before .before in
+    let known = c .before .before in
+    let s = start (known .before .before) in
     omega (
       arith,
       s .pre .0,
       coupon-room (s .args .entry) (s .args .layout) (s .args .numbers .now) (s .pre .0) (s .pre .1)
-          (c .before .before .entry5 .given .1),
+          (known .entry5 .given .1),
     )
 
 same-length-4 : tie.Need-same-length-4
@@ -86,10 +99,12 @@ same-length-4 c = search needs
 
 returns-5 : tie.Need-returns-5
 returns-5 c =
-    let s = c .before .before .before .before .before .before .before .before .before in
-    let t = c .before .before .append5 .ensures in
+    let appended = c .before .before in
+    let known = appended .before .before .before in
+    let s = start (known .before .before) in
+    let t = appended .append5 .ensures in
     coupon-adds (s .args .entry) (s .args .layout) (s .args .numbers .now) (s .pre .0) (s .pre .1)
-    (c .before .before .before .before .before .entry5 .given .1) (t .0) (t .1)
+    (known .entry5 .given .1) (t .0) (t .1)
 
 pub add-spec : {M : Type 1} → statement M
 add-spec =

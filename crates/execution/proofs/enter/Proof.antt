@@ -8,21 +8,29 @@ use borrow.Author.Needs.{needs}
 use Rattle.execution.proofs.enter.Statement.{statement}
 use Rattle.execution.proofs.enter.Tie as tie
 
+-- the places: the start, seen from the test for room, and behind the adding
+abbrev start : tie.After-has-room → tie.Start
+start r = r .before .before .before .before
+
+abbrev added-at : tie.After-struct-known → tie.After-add
+added-at c = c .before .before .before .before .before
+
 has-room-requires : tie.Need-has-room-requires
 has-room-requires c κs = search needs
 
 add-requires : tie.Need-add-requires
 add-requires c κs =
-    let s = c .before .before .before .before .before .before in
+    let tested = c .before in
+    let s = start (tested .before) in
     let limits = s .pre .1 .0 in
-    (limits, sym (c .before .before .has-room .ensures (s .args .numbers .now) limits) ∙ c .before .if1 .taken)
+    (limits, sym (tested .before .has-room .ensures (s .args .numbers .now) limits) ∙ tested .if1 .taken)
 
 entry-size-requires : tie.Need-entry-size-requires
 entry-size-requires c κs = search needs
 
 add-t12 : tie.Need-add-t12
 add-t12 c =
-    let s = c .before .before .before .before .before .before .before .before .before .before .before .before in
+    let s = start (added-at c .before .before .before) in
     omega (arith, entry-some (s .args .entry), c .before .entry-size .ensures, s .pre .0)
 
 same-length : tie.Need-same-length
@@ -30,9 +38,9 @@ same-length c = search needs
 
 returns : tie.Need-returns
 returns c =
-    let s = c .before .before .before .before .before .before .before .before .before .before .before .before in
-    let added = c .before .before .before .before .before .add in
-    let tested = c .before .before .before .before .before .before .before in
+    let added = added-at c .add in
+    let tested = added-at c .before .before in
+    let s = start (tested .before) in
     let free = sym (tested .before .has-room .ensures (s .args .numbers .now) (s .pre .1 .0)) ∙ tested .if1 .taken in (
       added .ensures .0,
       (λ register ds ps row. entry-executed (s .args .entry) (s .args .from) _ _ (s .args .numbers .now) _ (s .args .out .now) register ds ps row free
@@ -47,9 +55,10 @@ same-length-2 c = search needs
 
 returns-2 : tie.Need-returns-2
 returns-2 c =
-    let s = c .before .before .before .before .before .before .before .before .before in
-    let refused = c .before .before .refuse .ensures in
-    let tested = c .before .before .before .before in
+    let refusal = c .before .before in
+    let refused = refusal .refuse .ensures in
+    let tested = refusal .before .before in
+    let s = start (tested .before) in
     let full = sym (tested .before .has-room .ensures (s .args .numbers .now) (s .pre .1 .0)) ∙ tested .if1 .left in (
       limits-stay refused (s .pre .1 .0),
       (λ register ds ps row. execution-as

@@ -1,10 +1,11 @@
 -- `execution::execute` meets its contract: each way out is a law of `EffectLaws`.
-use mathlib.Core.Path.{sym, _∙_, subst}
+use mathlib.Core.Path.{refl, sym, _∙_, subst}
 use Rattle.entries.specs.declared.Layout.{Layout}
 use Rattle.entries.specs.Layouts.{LayoutLimits}
 use Rattle.machine.specs.Machine.{Machine}
 use Rattle.execution.specs.Executions.{machineAt}
 use Rattle.execution.proofs.EffectLaws.{
+  true-not-false,
   execution-as,
   refusal-executed,
   limits-stay,
@@ -21,21 +22,21 @@ abbrev machine : tie.Start → Machine
 machine s =
     machineAt (s .args .from) (s .args .numbers .now) (s .args .register .now) (s .args .defaults .now) (s .args .premiums .now) (s .args .row .now)
 
--- the places: where it starts, behind the reading of the command, and behind what was called for it
+-- the places: where it starts, behind what was called for the command, and where that entry or order is known
 abbrev start : tie.After-command-at → tie.Start
 start r = r .before .before .before .before .before .before .before .before
 
 abbrev entered : tie.After-slice-known10 → tie.After-enter
 entered c = c .before .before .before .before
 
-abbrev read-entry : tie.After-enter → tie.After-command-at
-read-entry e = e .before .before .before .before .before .before
+abbrev entry-known : tie.After-enter → tie.After-entry
+entry-known e = e .before .before .before .before
 
 abbrev obeyed : tie.After-slice-known15 → tie.After-obey
 obeyed c = c .before .before .before .before .before .before .before .before .before .before
 
-abbrev read-order : tie.After-obey → tie.After-command-at
-read-order e = e .before .before .before .before .before .before .before .before .before .before
+abbrev order-known : tie.After-obey → tie.After-order
+order-known e = e .before .before .before .before .before .before .before .before
 
 command-at-requires : tie.Need-command-at-requires
 command-at-requires c κs = search needs
@@ -51,14 +52,16 @@ same-length c = search needs
 
 returns : tie.Need-returns
 returns c =
-    let command = c .before .before .before .before .before .before in
+    let refusal = c .before .before in
+    let told = refusal .before .before in
+    let command = told .before .before in
     let s = start command in
-    let refused = c .before .before .refuse .ensures in
-    let read = sym (command .command-at .ensures) ∙ c .before .before .before .before .enum-told .given .1 in (
+    let refused = refusal .refuse .ensures in
+    let read = sym (command .command-at .ensures) ∙ told .enum-told .given .1 in (
       limits-stay refused (s .pre .1 .0),
       (
         s .pre .1 .1 .0,
-        execution-as (unknown-effect (s .args .from .at) (machine s) read) (refusal-executed 18 (s .args .from) _ refused),
+        (execution-as (unknown-effect (s .args .from .at) (machine s) read) (refusal-executed 18 (s .args .from) _ refused), λ z. refl),
       ),
     )
 
@@ -73,14 +76,16 @@ same-length-2 c = search needs
 
 returns-2 : tie.Need-returns-2
 returns-2 c =
-    let command = c .before .before .before .before .before .before in
+    let refusal = c .before .before in
+    let told = refusal .before .before in
+    let command = told .before .before in
     let s = start command in
-    let refused = c .before .before .refuse2 .ensures in
-    let read = sym (command .command-at .ensures) ∙ c .before .before .before .before .enum-told2 .given .1 in (
+    let refused = refusal .refuse2 .ensures in
+    let read = sym (command .command-at .ensures) ∙ told .enum-told2 .given .1 in (
       limits-stay refused (s .pre .1 .0),
       (
         s .pre .1 .1 .0,
-        execution-as (cut-effect (s .args .from .at) (machine s) read) (refusal-executed 19 (s .args .from) _ refused),
+        (execution-as (cut-effect (s .args .from .at) (machine s) read) (refusal-executed 19 (s .args .from) _ refused), λ z. refl),
       ),
     )
 
@@ -99,15 +104,19 @@ same-length-4 c = search needs
 returns-3 : tie.Need-returns-3
 returns-3 c =
     let e = entered c in
-    let command = read-entry e in
+    let known = entry-known e in
+    let command = known .before .before in
     let s = start command in
     let done = e .enter .ensures in
-    let read = sym (command .command-at .ensures) ∙ e .before .before .before .before .entry .given .1 in (
+    let read = sym (command .command-at .ensures) ∙ known .entry .given .1 in (
       done .0,
       (
         s .pre .1 .1 .0,
-        execution-as (enter-effect (s .args .from .at) (machine s) read)
-            (done .1 (s .args .register .now) (s .args .defaults .now) (s .args .premiums .now) (s .args .row .now)),
+        (
+          execution-as (enter-effect (s .args .from .at) (machine s) read)
+              (done .1 (s .args .register .now) (s .args .defaults .now) (s .args .premiums .now) (s .args .row .now)),
+          λ z. refl,
+        ),
       ),
     )
 
@@ -138,12 +147,16 @@ same-length-10 c = search needs
 returns-4 : tie.Need-returns-4
 returns-4 c =
     let e = obeyed c in
-    let command = read-order e in
+    let known = order-known e in
+    let command = known .before .before in
     let s = start command in
     let done = e .obey .ensures in
-    let read = sym (command .command-at .ensures) ∙ e .before .before .before .before .before .before .before .before .order .given .1 in (
+    let read = sym (command .command-at .ensures) ∙ known .order .given .1 in (
       subst (λ (l : Layout). LayoutLimits l (s .args .numbers .now)) (sym (done .1 .0)) (s .pre .1 .0),
-      (done .0, execution-as (act-effect (s .args .from .at) (machine s) read) (done .1 .1)),
+      (
+        done .0,
+        (execution-as (act-effect (s .args .from .at) (machine s) read) (done .1 .1 .0), λ z. absurd (true-not-false z (done .1 .1 .1))),
+      ),
     )
 
 pub execute-spec : {M : Type 1} → statement M

@@ -53,10 +53,13 @@ returns c =
       act .ensures .0,
       (
         refl,
-        order-executed (s .args .order) (s .args .from) (s .args .from .layout) _ _ (act .result .answer)
-            (machineAt (s .args .from) (s .args .numbers .now) (s .args .register .now) (s .args .defaults .now) (s .args .premiums .now)
-            (s .args .row .now))
-            _ (act .ensures .1) (line .0) (line .1) (sized .order-size .ensures),
+        (
+          order-executed (s .args .order) (s .args .from) (s .args .from .layout) _ _ (act .result .answer)
+              (machineAt (s .args .from) (s .args .numbers .now) (s .args .register .now) (s .args .defaults .now) (s .args .premiums .now)
+              (s .args .row .now))
+              _ (act .ensures .1) (line .0) (line .1) (sized .order-size .ensures),
+          refl,
+        ),
       ),
     )
 

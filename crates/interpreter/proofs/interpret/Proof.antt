@@ -1,7 +1,7 @@
 -- `interpreter::interpret` meets its contract. The loop's invariant: all that is to be printed is what stands in out and what the rest
 -- of the deck prints, with the machine that the figures and arrays stand for. The measure is what is left of the deck.
 use Prim.Native.Nat.{_-_}
-use mathlib.Core.Path.{sym, _∙_}
+use mathlib.Core.Path.{_≡_, refl, sym, _∙_}
 use native.Mathlib.Omega.{arith}
 use lib.ListN.{length}
 use Rattle.lines.proofs.Laws.{wrote-long}
@@ -11,15 +11,17 @@ use Rattle.entries.specs.Layouts.{LayoutLimits}
 use Rattle.machine.specs.Machine.{machineOf, RoomLengths}
 use Rattle.execution.specs.Executions.{machineAt}
 use Rattle.interpreter.specs.ListingFrom.{listingFrom}
-use Rattle.interpreter.proofs.LoopInvariant.{Invariant, start-limits, holds-at-start, line-fits, holds-on, printed-last, printed-all}
+use Rattle.interpreter.specs.RegisterFrom.{registerFrom}
+use Rattle.interpreter.proofs.LoopInvariant.{Invariant, start-limits, holds-at-start, line-fits, holds-on, finished-last, finished-all}
 use Rattle.interpreter.proofs.interpret.Statement.{statement}
 use Rattle.interpreter.proofs.interpret.Tie as tie
 
 abbrev Inv-loop : tie.InvT-loop
 Inv-loop deck numbers₀ register₀ defaults₀ premiums₀ row₀ out₀ progress₀ numbers register defaults premiums row out progress =
-    Invariant (listingFrom (length deck) deck 0 (machineOf emptyDraft register₀ fresh defaults₀ premiums₀ row₀)) deck out₀ out progress
+    Invariant (listingFrom (length deck) deck 0 (machineOf emptyDraft register₀ fresh defaults₀ premiums₀ row₀))
+    (registerFrom (length deck) deck 0 (machineOf emptyDraft register₀ fresh defaults₀ premiums₀ row₀)) deck out₀ out progress
     (machineAt progress numbers register defaults premiums row)
-    × LayoutLimits (progress .layout) numbers × RoomLengths register defaults premiums row
+    × LayoutLimits (progress .layout) numbers × RoomLengths defaults premiums row × (length register ≡ length register₀)
 
 abbrev μ-loop : tie.MeasureT-loop
 μ-loop deck numbers₀ register₀ defaults₀ premiums₀ row₀ out₀ progress₀ numbers register defaults premiums row out progress =
@@ -45,6 +47,7 @@ loop-holds c =
           (s .args .premiums .now) (s .args .row .now) (c .start .ensures),
       start-limits (s .args .numbers .now) (c .start .ensures) (s .pre .0),
       s .pre .1 .0,
+      refl,
     )
 
 execute-requires : tie.Need-execute-requires Inv-loop μ-loop
@@ -60,7 +63,7 @@ same-length c =
 
 same-length-2 : tie.Need-same-length-2 Inv-loop μ-loop
 same-length-2 c =
-    executed (c .before) .execute .ensures .1 .0 .register-long ∙ sym (start (at-loop (executed (c .before))) .pre .1 .0 .register-long)
+    executed (c .before) .execute .kept .1 .1 .1 .0 ∙ at-loop (executed (c .before)) .loop .inv .3
 
 same-length-3 : tie.Need-same-length-3 Inv-loop μ-loop
 same-length-3 c =
@@ -85,12 +88,13 @@ returns c =
     let i = at-loop e .loop .inv in
     let done = e .execute in
     let inside = e .before .before .before .before .before .before .before .if1 .taken in
-    printed-last _ _ _ _ _ _ _ _ (done .result) inside (s .pre .1 .1) (done .ensures .1 .1) (i .0) (c .if2 .taken)
+    let printed = finished-last _ _ _ _ _ _ _ _ _ (done .result) inside (s .pre .1 .1) (done .ensures .1 .1 .0) (i .0) (c .if2 .taken) in
+    (printed .0, (printed .1, done .ensures .1 .1 .1 (c .if2 .taken) ∙ printed .2))
 
 loop-less : tie.Need-loop-less Inv-loop μ-loop
 loop-less c =
     let e = executed (c .before) in
-    omega (arith, e .before .before .before .before .before .before .before .if1 .taken, e .execute .ensures .1 .1 .onward (c .if2 .left))
+    omega (arith, e .before .before .before .before .before .before .before .if1 .taken, e .execute .ensures .1 .1 .0 .onward (c .if2 .left))
 
 loop-again : tie.Need-loop-again Inv-loop μ-loop
 loop-again c =
@@ -98,8 +102,12 @@ loop-again c =
     let s = start (at-loop e) in
     let i = at-loop e .loop .inv in
     let done = e .execute in
-    let inside = e .before .before .before .before .before .before .before .if1 .taken in
-    (holds-on _ _ _ _ _ _ _ _ (done .result) inside (s .pre .1 .1) (done .ensures .1 .1) (i .0) (c .if2 .left), done .ensures .0, done .ensures .1 .0)
+    let inside = e .before .before .before .before .before .before .before .if1 .taken in (
+      holds-on _ _ _ _ _ _ _ _ _ (done .result) inside (s .pre .1 .1) (done .ensures .1 .1 .0) (i .0) (c .if2 .left),
+      done .ensures .0,
+      done .ensures .1 .0,
+      done .kept .1 .1 .1 .0 ∙ i .3,
+    )
 
 same-length-7 : tie.Need-same-length-7 Inv-loop μ-loop
 same-length-7 c =
@@ -107,7 +115,7 @@ same-length-7 c =
 
 same-length-8 : tie.Need-same-length-8 Inv-loop μ-loop
 same-length-8 c =
-    c .before .before .loop .inv .2 .register-long ∙ sym (start (c .before .before) .pre .1 .0 .register-long)
+    c .before .before .loop .inv .3
 
 same-length-9 : tie.Need-same-length-9 Inv-loop μ-loop
 same-length-9 c =
@@ -127,7 +135,7 @@ same-length-12 c =
 
 returns-2 : tie.Need-returns-2 Inv-loop μ-loop
 returns-2 c =
-    printed-all (c .before .before .loop .inv .0) (c .if1 .left)
+    let printed = finished-all (c .before .before .loop .inv .0) (c .if1 .left) in (printed .0, (printed .1, printed .2))
 
 pub interpret-spec : {M : Type 1} → statement M
 interpret-spec =

@@ -1,7 +1,7 @@
 -- `lines::put_decimal` meets its contract; the number falls with each call.
 use Prim.Native.Nat.{ℕ, _<_}
 use native.Mathlib.Omega.{arith}
-use lib.ListN.{length-set}
+use lib.ListN.{length, length-set}
 use Rattle.lines.proofs.Laws.{length-small, length-large, wrote-small, wrote-large}
 use borrow.Fn.Kinds.{In}
 use borrow.Fn.PlainCycle.{Measures, is, falls, and}
@@ -21,6 +21,18 @@ put-decimal-at t =
 abbrev put-decimal-below : ℕ → In 1 put-decimal-kinds.ps
 put-decimal-below t =
     and 1 put-decimal-kinds.ps (falls 1 put-decimal-kinds.ps _<_ μ-put-decimal t) put-decimal.Pre
+
+-- the places of a number of 10 or more, seen from behind its last digit: the call for the digits before it, and the start
+module _ {t : ℕ} (c : put-decimal-lts.After-slice-known2 (put-decimal-below t, put-decimal.Post) (put-decimal-at t) put-decimal.Post) where
+  abbrev called : put-decimal-lts.After-put-decimal (put-decimal-below t, put-decimal.Post) (put-decimal-at t) put-decimal.Post
+  called = c .before .before
+
+  abbrev start : put-decimal-lts.Start (put-decimal-below t, put-decimal.Post) (put-decimal-at t) put-decimal.Post
+  start = called .before .before .before .before
+
+  -- the room goes on where those digits end
+  room : called .put-decimal .result < length (start .args .out .now)
+  room = omega (arith, length-large (start .args .n) (called .before .before .if1 .left), called .put-decimal .ensures .stop, start .pre .1)
 
 put-decimal-cast-out : (t : ℕ) → put-decimal-lts.Need-cast-out (
   put-decimal-below t,
@@ -51,8 +63,8 @@ put-decimal-put-decimal-requires : (t : ℕ) → put-decimal-lts.Need-put-decima
   put-decimal.Post,
 ) (put-decimal-at t) put-decimal.Post
 put-decimal-put-decimal-requires t c κs =
-    let a = c .before .before .before .args in
-    (omega arith, omega (arith, length-large (a .n) (c .before .if1 .left)))
+    let large = c .before in
+    (omega arith, omega (arith, length-large (large .before .before .args .n) (large .if1 .left)))
 
 put-decimal-cast-out-2 : (t : ℕ) → put-decimal-lts.Need-cast-out-2 (
   put-decimal-below t,
@@ -70,17 +82,13 @@ put-decimal-slice-write-out-2 : (t : ℕ) → put-decimal-lts.Need-slice-write-o
   put-decimal-below t,
   put-decimal.Post,
 ) (put-decimal-at t) put-decimal.Post
-put-decimal-slice-write-out-2 t c =
-    let s = c .before .before .before .before .before .before in
-    omega (arith, length-large (s .args .n) (c .before .before .before .before .if1 .left), c .before .before .put-decimal .ensures .stop, c .before .before .put-decimal .kept .0, s .pre .1, s .good)
+put-decimal-slice-write-out-2 t c = omega (arith, room c, called c .put-decimal .kept .0)
 
 put-decimal-add-result-2 : (t : ℕ) → put-decimal-lts.Need-add-result-2 (
   put-decimal-below t,
   put-decimal.Post,
 ) (put-decimal-at t) put-decimal.Post
-put-decimal-add-result-2 t c =
-    let s = c .before .before .before .before .before .before in
-    omega (arith, length-large (s .args .n) (c .before .before .before .before .if1 .left), c .before .before .put-decimal .ensures .stop, c .before .before .put-decimal .kept .0, s .pre .1, s .good)
+put-decimal-add-result-2 t c = omega (arith, room c, start c .good)
 
 put-decimal-same-length : (t : ℕ) → put-decimal-lts.Need-same-length (
   put-decimal-below t,
@@ -98,16 +106,16 @@ put-decimal-same-length-2 : (t : ℕ) → put-decimal-lts.Need-same-length-2 (
   put-decimal-below t,
   put-decimal.Post,
 ) (put-decimal-at t) put-decimal.Post
-put-decimal-same-length-2 t c = simp length-set (c .before .before .put-decimal .kept .0)
+put-decimal-same-length-2 t c = simp length-set (called c .put-decimal .kept .0)
 
 put-decimal-returns-2 : (t : ℕ) → put-decimal-lts.Need-returns-2 (
   put-decimal-below t,
   put-decimal.Post,
 ) (put-decimal-at t) put-decimal.Post
 put-decimal-returns-2 t c =
-    let s = c .before .before .before .before .before .before in
-    let p = c .before .before .put-decimal in
-    wrote-large (s .args .out .now) (p .last .0) (s .args .at) (s .args .n) (p .result) (c .before .before .before .before .if1 .left) (p .ensures)
+    let a = start c .args in
+    let p = called c .put-decimal in
+    wrote-large (a .out .now) (p .last .0) (a .at) (a .n) (p .result) (called c .before .before .if1 .left) (p .ensures)
 
 pub +put-decimal-spec : {M : Type 1} → statement M
 +put-decimal-spec = close μ-put-decimal λ t. put-decimal-lts.spec (

@@ -13,17 +13,24 @@ use Rattle.lines.proofs.Written.{signed-neg, signed-pos}
 use Rattle.lines.proofs.put_signed.Statement.{statement}
 use Rattle.lines.proofs.put_signed.Tie as tie
 
+-- the start, seen from behind the magnitude of a number below 0 and of another
+abbrev start-neg : tie.After-magnitude → tie.Start
+start-neg c = c .before .before .before .before
+
+abbrev start-plus : tie.After-magnitude2 → tie.Start
+start-plus c = c .before .before .before .before
+
 neg : (c : tie.Then1) → signed (c .before .before .args .x) ≡ 45 ∷ decimal (natAbs (c .before .before .args .x))
 neg c = signed-neg (c .before .before .args .x) (c .before .before .fits .x) (c .if1 .taken)
 
 plus : (c : tie.Else1) → signed (c .before .before .args .x) ≡ decimal (natAbs (c .before .before .args .x))
 plus c = signed-pos (c .before .before .args .x) (c .before .before .fits .x) (c .if1 .left)
 
-magnitude-neg : (c : tie.After-magnitude) → c .magnitude .result ≡ natAbs (c .before .before .before .before .args .x)
-magnitude-neg c = let s = c .before .before .before .before in c .magnitude .ensures ∙ ap natAbs (read-is (s .args .x) (s .fits .x))
+magnitude-neg : (c : tie.After-magnitude) → c .magnitude .result ≡ natAbs (start-neg c .args .x)
+magnitude-neg c = let s = start-neg c in c .magnitude .ensures ∙ ap natAbs (read-is (s .args .x) (s .fits .x))
 
-magnitude-plus : (c : tie.After-magnitude2) → c .magnitude2 .result ≡ natAbs (c .before .before .before .before .args .x)
-magnitude-plus c = let s = c .before .before .before .before in c .magnitude2 .ensures ∙ ap natAbs (read-is (s .args .x) (s .fits .x))
+magnitude-plus : (c : tie.After-magnitude2) → c .magnitude2 .result ≡ natAbs (start-plus c .args .x)
+magnitude-plus c = let s = start-plus c in c .magnitude2 .ensures ∙ ap natAbs (read-is (s .args .x) (s .fits .x))
 
 slice-write-out : tie.Need-slice-write-out
 slice-write-out c = omega (arith, ap length (neg c))

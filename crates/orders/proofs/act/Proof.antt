@@ -5,13 +5,16 @@ use Rattle.orders.proofs.OrderLaws.{
   withdraw-acts,
   call-acts,
   forward-acts,
-  lengths-register,
   lengths-rooms,
   lengths-row,
 }
 use borrow.Author.Needs.{needs}
 use Rattle.orders.proofs.act.Statement.{statement}
 use Rattle.orders.proofs.act.Tie as tie
+
+-- the start, seen from the match; in an arm `known` is where its order is known
+abbrev start : tie.After-sheet → tie.Start
+start m = m .before .before .before .before .before .before
 
 enum-known-order : tie.Need-enum-known-order
 enum-known-order c = search needs
@@ -42,12 +45,14 @@ same-length c = search needs
 
 returns : tie.Need-returns
 returns c =
-    let s = c .before .before .before .before .before .before .before .before .before .before .before .before .before in
-    let t = c .before .before .issue in (
-      lengths-register (s .pre) (t .kept .1 .0),
+    let called = c .before .before in
+    let known = called .before .before .before in
+    let s = start (known .before .before) in
+    let t = called .issue in (
+      s .pre,
       issue-acts (s .args .order) (draftIn (s .args .layout) (s .args .numbers .now)) (s .args .walk) (s .args .register .now)
           (s .args .defaults .now) (s .args .premiums .now) (s .args .row .now)
-          (c .before .before .before .before .before .order .given .1) (t .ensures .0) (t .ensures .1 .0) (t .ensures .1 .1),
+          (known .order .given .1) (t .ensures .0) (t .ensures .1 .0) (t .ensures .1 .1),
     )
 
 same-length-2 : tie.Need-same-length-2
@@ -55,12 +60,14 @@ same-length-2 c = search needs
 
 returns-2 : tie.Need-returns-2
 returns-2 c =
-    let s = c .before .before .before .before .before .before .before .before .before .before .before .before .before in
-    let t = c .before .before .withdraw in (
-      lengths-register (s .pre) (t .kept .1 .0),
+    let called = c .before .before in
+    let known = called .before .before .before in
+    let s = start (known .before .before) in
+    let t = called .withdraw in (
+      s .pre,
       withdraw-acts (s .args .order) (draftIn (s .args .layout) (s .args .numbers .now)) (s .args .walk) (s .args .register .now)
           (s .args .defaults .now) (s .args .premiums .now) (s .args .row .now)
-          (c .before .before .before .before .before .order2 .given .1) (t .ensures .0) (t .ensures .1 .0) (t .ensures .1 .1),
+          (known .order2 .given .1) (t .ensures .0) (t .ensures .1 .0) (t .ensures .1 .1),
     )
 
 same-length-3 : tie.Need-same-length-3
@@ -71,12 +78,14 @@ same-length-4 c = search needs
 
 returns-3 : tie.Need-returns-3
 returns-3 c =
-    let s = c .before .before .before .before .before .before .before .before .before .before .before .before .before .before in
-    let t = c .before .before .forward in (
+    let called = c .before .before in
+    let known = called .before .before .before .before in
+    let s = start (known .before .before) in
+    let t = called .forward in (
       lengths-row (s .pre) (t .kept .1 .1 .1 .0),
       forward-acts (s .args .order) (draftIn (s .args .layout) (s .args .numbers .now)) (s .args .walk) (s .args .register .now)
           (s .args .defaults .now) (s .args .premiums .now) (s .args .row .now)
-          (c .before .before .before .before .before .before .order3 .given .1) (t .ensures),
+          (known .order3 .given .1) (t .ensures),
     )
 
 same-length-5 : tie.Need-same-length-5
@@ -90,12 +99,14 @@ same-length-7 c = search needs
 
 returns-4 : tie.Need-returns-4
 returns-4 c =
-    let s = c .before .before .before .before .before .before .before .before .before .before .before .before .before .before .before .before .before in
-    let t = c .before .before .before .before .before .before .call in (
+    let called = c .before .before .before .before .before .before in
+    let known = called .before .before .before .before in
+    let s = start (known .before) in
+    let t = called .call in (
       lengths-rooms (s .pre) (t .kept .1 .1 .1 .1 .1 .0) (t .kept .1 .1 .1 .1 .1 .1 .0),
       call-acts (s .args .order) (draftIn (s .args .layout) (s .args .numbers .now)) (s .args .walk) (s .args .register .now)
           (s .args .defaults .now) (s .args .premiums .now) (s .args .row .now)
-          (c .before .before .before .before .before .before .before .before .before .before .match .keys4) (t .ensures) (c .of-walk .ensures),
+          (known .match .keys4) (t .ensures) (c .of-walk .ensures),
     )
 
 pub act-spec : {M : Type 1} → statement M

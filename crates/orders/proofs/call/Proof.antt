@@ -8,6 +8,10 @@ use borrow.Author.Needs.{needs}
 use Rattle.orders.proofs.call.Statement.{statement}
 use Rattle.orders.proofs.call.Tie as tie
 
+-- the start, seen from the match; in an arm `known` is where its order is known
+abbrev start : tie.After-slice-known2 → tie.Start
+start m = m .before .before .before .before
+
 abbrev sheet : tie.Start → Brought
 sheet s = broughtIn (s .args .sheet) (s .args .numbers .now)
 
@@ -37,9 +41,11 @@ same-length-2 c = search needs
 
 returns : tie.Need-returns
 returns c =
-    let s = c .before .before .before .before .before .before .before .before .before .before .before .before .before in
+    let called = c .before .before .before .before in
+    let known = called .before .before .before in
+    let s = start (known .before .before) in
     open-calls (s .args .order) (sheet s) (s .args .register .now) (s .args .walk) (rooms s)
-    (c .before .before .before .before .before .before .before .enum-told .given .1) (c .before .before .before .before .«open» .ensures)
+    (known .enum-told .given .1) (called .«open» .ensures)
 
 same-length-3 : tie.Need-same-length-3
 same-length-3 c = search needs
@@ -49,9 +55,11 @@ same-length-4 c = search needs
 
 returns-2 : tie.Need-returns-2
 returns-2 c =
-    let s = c .before .before .before .before .before .before .before .before .before .before .before .before .before .before in
+    let called = c .before .before .before .before in
+    let known = called .before .before .before .before in
+    let s = start (known .before .before) in
     back-calls (s .args .order) (sheet s) (s .args .register .now) (s .args .walk) (rooms s)
-    (c .before .before .before .before .before .before .before .before .order .given .1) (c .before .before .before .before .back .ensures)
+    (known .order .given .1) (called .back .ensures)
 
 same-length-5 : tie.Need-same-length-5
 same-length-5 c = search needs
@@ -61,9 +69,10 @@ same-length-6 c = search needs
 
 returns-3 : tie.Need-returns-3
 returns-3 c =
-    let s = c .before .before .before .before .before .before .before .before in
+    let known = c .before .before .before in
+    let s = start (known .before) in
     c .read .ensures ∙ reads-call (s .args .order) (sheet s) (s .args .register .now) (s .args .walk) (rooms s)
-    (c .before .before .before .match .keys3)
+    (known .match .keys3)
 
 pub call-spec : {M : Type 1} → statement M
 call-spec =

@@ -7,6 +7,10 @@ use borrow.Author.Needs.{needs}
 use Rattle.orders.proofs.read.Statement.{statement}
 use Rattle.orders.proofs.read.Tie as tie
 
+-- the start, seen from the match; in an arm `known` is where its order is known
+abbrev start : tie.After-shared-slice-known4 → tie.Start
+start m = m .before .before .before .before
+
 abbrev sheet : tie.Start → Brought
 sheet s = broughtIn (s .args .sheet) (s .args .numbers .now)
 
@@ -27,17 +31,19 @@ hedge-ratio-requires c κs = search needs
 
 returns : tie.Need-returns
 returns c =
-    let s = c .before .before .before .before .before .before .before .before in
-    value-reads (s .args .order) (sheet s) (s .args .register .now) (s .args .walk) (rooms s) (c .before .before .order .given .1) (c .value .ensures)
+    let known = c .before .before in
+    let s = start (known .before .before) in
+    value-reads (s .args .order) (sheet s) (s .args .register .now) (s .args .walk) (rooms s) (known .order .given .1) (c .value .ensures)
 
 returns-2 : tie.Need-returns-2
 returns-2 c =
-    let s = c .before .before .before .before .before .before .before .before in
-    delta-reads (s .args .order) (sheet s) (s .args .register .now) (s .args .walk) (rooms s) (c .before .before .order2 .given .1) (c .hedge-ratio .ensures)
+    let known = c .before .before in
+    let s = start (known .before .before) in
+    delta-reads (s .args .order) (sheet s) (s .args .register .now) (s .args .walk) (rooms s) (known .order2 .given .1) (c .hedge-ratio .ensures)
 
 returns-3 : tie.Need-returns-3
 returns-3 c =
-    let s = c .before .before .before .before .before in
+    let s = start (c .before) in
     nothing-read (s .args .order) (sheet s) (s .args .register .now) (s .args .walk) (rooms s) (c .match .keys3)
 
 pub read-spec : {M : Type 1} → statement M

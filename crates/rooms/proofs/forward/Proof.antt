@@ -16,15 +16,15 @@ start z = z .before .before .before .before .before
 abbrev sized : tie.After-forward → tie.After-forward-size
 sized f = f .before .before
 
-abbrev called : tie.Else1 → tie.After-forward
-called c = c .before .before .before .before .before .before
+abbrev called : tie.After-struct-known → tie.After-forward
+called k = k .before .before .before .before .before
 
 abbrev sheet : tie.Start → Brought
 sheet s = broughtIn (s .args .sheet) (s .args .numbers .now)
 
-few : (c : tie.Else1) → start (sized (called c)) .args .count ≤ 125
+few : (c : tie.Else1) → start (sized (called (c .before))) .args .count ≤ 125
 few c =
-    let f = called c in
+    let f = called (c .before) in
     let s = start (sized f) in
     let n : s .args .sheet .pool .names ≤ 125 =
     names-few (sheet s) (s .args .register .now) (s .args .row .now) _ _ (s .args .steps) (s .args .count) _ (sized f .forward-size .ensures) (s .pre)
@@ -53,7 +53,7 @@ same-length c = search needs
 
 returns : tie.Need-returns
 returns c =
-    let f = c .before .before .before .before .before .before in
+    let f = called (c .before) in
     let s = start (sized f) in
     distribution-left (sheet s) (s .args .register .now) (s .args .row .now) _ _ (s .args .steps) (s .args .count) _ (sized f .forward-size .ensures) (s .pre)
     (f .forward .ensures .0)
@@ -64,7 +64,7 @@ mul-t13 c = omega (arith, few c)
 
 slice-read-t15 : tie.Need-slice-read-t15
 slice-read-t15 c =
-    let f = called (c .before) in
+    let f = called (c .before .before) in
     let s = start (sized f) in
     omega (
       arith,
@@ -78,7 +78,7 @@ same-length-2 c = search needs
 
 returns-2 : tie.Need-returns-2
 returns-2 c =
-    let f = called (c .before) in
+    let f = called (c .before .before) in
     let s = start (sized f) in
     distribution-left (sheet s) (s .args .register .now) (s .args .row .now) _ _ (s .args .steps) (s .args .count) _ (sized f .forward-size .ensures) (s .pre)
     (f .forward .ensures .0)

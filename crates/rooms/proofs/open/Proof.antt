@@ -48,11 +48,12 @@ same-length-2 c = search needs
 returns : tie.Need-returns
 unfolding openInRooms
 returns c =
-    let r = c .before .before .before .before .before .before .before in
+    let called = c .before .before .before .before in
+    let r = called .before .before .before in
     let s = start r in
     rooms-left (sheet s) (s .args .defaults .now) (s .args .premiums .now) _ (r .row-size .ensures) (s .pre .0) (s .pre .1)
     (λ (l : Rows). openCall (sheet s) (s .args .register .now) (s .args .walk) l)
-    (c .before .before .before .before .«open» .ensures .0)
+    (called .«open» .ensures .0)
 
 pub open-spec : {M : Type 1} → statement M
 open-spec =

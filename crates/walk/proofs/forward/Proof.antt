@@ -9,8 +9,8 @@ use Prim.Native.Nat.{ℕ}
 use Rattle.forward.proofs.Alike.{hazards-enough}
 use Rattle.sheet.specs.Brought.{Brought}
 use Rattle.sheet.specs.Spans.{broughtIn}
-use Rattle.checks.specs.declared.Found.the-variants.{Fine}
-use Rattle.checks.specs.Tests.{first, poolBad}
+use Rattle.refusals.specs.declared.Found.the-variants.{Fine}
+use Rattle.refusals.specs.Tests.{first, poolBad}
 use Rattle.sheet.proofs.Limits.{hazard-most, limits-terms}
 use Rattle.admission.specs.LentTests.{tenTests, rowBad}
 use Rattle.walk.specs.Calls.{ForwardOutcome, forwardCall}

@@ -1,0 +1,112 @@
+-- `deck::run_on` meets its contract.
+use Prim.Native.Nat.{_≤_, _<_}
+use mathlib.Core.Path.{_∙_}
+use native.Mathlib.Omega.{arith}
+use Rattle.deck.proofs.Printing.{oversized, oversized-left, sized, sized-left, room-least, room-sized, no-room, no-room-left, left, printed}
+use lib.ListN.{length}
+use Rattle.deck.specs.Listing.{room as roomOf}
+use borrow.Author.Needs.{needs}
+use Rattle.deck.proofs.run_on.Statement.{statement}
+use Rattle.deck.proofs.run_on.Tie as tie
+
+-- the places: where it starts, past both tests, and behind the interpretation
+abbrev start : tie.After-room → tie.Start
+start r = r .before .before .before .before
+
+abbrev past-tests : tie.After-interpret-arg2 → tie.Else2
+past-tests c = c .before .before .before .before .before .before
+
+abbrev interpreted : tie.After-slice-known5 → tie.After-interpret
+interpreted c = c .before .before .before .before .before .before .before .before
+
+room-requires : tie.Need-room-requires
+room-requires c κs = search needs
+
+returns : tie.Need-returns
+returns c =
+    let s = start (c .before) in
+    let short : length (s .args .out .now) < roomOf (length (s .args .deck .now)) = omega (arith, c .if1 .taken, c .before .room .ensures) in (
+      no-room (s .args .register .now) (s .args .deck .now) (s .args .out .now) short,
+      no-room-left (s .args .register .now) (s .args .deck .now) (s .args .out .now) short,
+    )
+
+put-deck-requires : tie.Need-put-deck-requires
+put-deck-requires c κs =
+    let e = c .before .before in
+    let s = start (e .before) in
+    omega (arith, e .if1 .left, e .before .room .ensures, room-least (length (s .args .deck .now)))
+
+same-length : tie.Need-same-length
+same-length c = search needs
+
+returns-2 : tie.Need-returns-2
+returns-2 c =
+    let line = c .before .before .put-deck .ensures in
+    let oversize = c .before .before .before .before in
+    let fits = oversize .before .if1 .left in
+    let room = oversize .before .before .room .ensures in
+    let s = start (oversize .before .before) in
+    let long : 65536 < length (s .args .deck .now) = omega (arith, oversize .if2 .taken) in (
+      printed (s .args .register .now) (s .args .deck .now) (s .args .out .now) _ _ _ (omega (arith, fits, room))
+          (oversized (s .args .register .now) (s .args .deck .now) long) (line .0)
+          (omega (arith, fits, room, room-least (length (s .args .deck .now)), line .1)),
+      left (s .args .register .now) (s .args .deck .now) (s .args .out .now) (omega (arith, fits, room))
+          (oversized-left (s .args .register .now) (s .args .deck .now) long),
+    )
+
+slice-aggregate-interpret : tie.Need-slice-aggregate-interpret
+slice-aggregate-interpret c = search needs
+
+slice-aggregate-interpret-2 : tie.Need-slice-aggregate-interpret-2
+slice-aggregate-interpret-2 c = search needs
+
+slice-aggregate-interpret-3 : tie.Need-slice-aggregate-interpret-3
+slice-aggregate-interpret-3 c = search needs
+
+slice-aggregate-interpret-4 : tie.Need-slice-aggregate-interpret-4
+slice-aggregate-interpret-4 c = search needs
+
+interpret-requires : tie.Need-interpret-requires
+interpret-requires c κs =
+    let e = past-tests c in
+    let s = start (e .before .before) in
+    let room = room-sized (length (s .args .deck .now)) (omega (arith, e .if2 .left)) in
+    (search needs, (search needs, omega (arith, e .before .if1 .left, e .before .before .room .ensures, room)))
+
+same-length-2 : tie.Need-same-length-2
+same-length-2 c = search needs
+
+same-length-3 : tie.Need-same-length-3
+same-length-3 c = search needs
+
+returns-3 : tie.Need-returns-3
+returns-3 c =
+    let i = interpreted c in
+    let e = past-tests (i .before) in
+    let s = start (e .before .before) in
+    let fits : roomOf (length (s .args .deck .now)) ≤ length (s .args .out .now) =
+    omega (arith, e .before .if1 .left, e .before .before .room .ensures) in
+    let short : length (s .args .deck .now) ≤ 65536 = omega (arith, e .if2 .left) in (
+      printed (s .args .register .now) (s .args .deck .now) (s .args .out .now) _ _ _ fits
+          (sized (s .args .register .now) (s .args .deck .now) short) (i .interpret .ensures .0) (i .interpret .ensures .1 .0),
+      left (s .args .register .now) (s .args .deck .now) (s .args .out .now) fits
+          (i .interpret .ensures .1 .1 ∙ sized-left (s .args .register .now) (s .args .deck .now) short),
+    )
+
+pub run-on-spec : {M : Type 1} → statement M
+run-on-spec =
+    tie.close
+    (tie.spec
+    room-requires
+    returns
+    put-deck-requires
+    same-length
+    returns-2
+    slice-aggregate-interpret
+    slice-aggregate-interpret-2
+    slice-aggregate-interpret-3
+    slice-aggregate-interpret-4
+    interpret-requires
+    same-length-2
+    same-length-3
+    returns-3)

@@ -1,0 +1,96 @@
+// The single checks of a sheet, each a yes or no.
+ghost use mathlib.Core.Path.{_≡_};
+ghost use mathlib.Core.List.{[]};
+ghost use Prim.Native.Nat.{_+_, _≤_};
+ghost use lib.ListN.{length};
+ghost use Rattle.sheet.specs.Terms.{bare, termsOf};
+ghost use Rattle.sheet.specs.Spans.{listIn, broughtIn};
+ghost use Rattle.refusals.specs.Tests.{differs, poolBad, listsBad, attachmentsBad, accrualsBad};
+use cash::UNITS;
+use sheet::NAMES_MOST;
+use sheet::Pool;
+use sheet::STEPS_MOST;
+use sheet::Sheet;
+use sheet::Span;
+use sheet::TRANCHES_MOST;
+use sheet::part;
+
+// 1: whether the names, steps or tranches are outside their limits.
+pub fn pool_outside(pool: Pool) -> bool
+    ensures { λ r. ⌜ r ≡ poolBad (bare pool []) ⌝ }
+{
+    if pool.names < 1 {
+        return true;
+    }
+    if NAMES_MOST < pool.names {
+        return true;
+    }
+    if pool.steps < 1 {
+        return true;
+    }
+    if STEPS_MOST < pool.steps {
+        return true;
+    }
+    if pool.tranches < 1 {
+        return true;
+    }
+    if TRANCHES_MOST < pool.tranches {
+        return true;
+    }
+    false
+}
+
+// Whether the list of a span has another length.
+fn length_differs(span: Span, numbers: &[u64], due: usize) -> bool
+    ensures { λ r. ⌜ r ≡ differs (length (listIn span (now (numbers .entry)))) due ⌝ }
+{
+    let list = part(span, numbers);
+    list.len() != due
+}
+
+// 2: whether one of the sheet's own lists has another length. Few tranches, so that one more fits.
+pub fn lists_differ(sheet: Sheet, numbers: &[u64]) -> bool
+    requires { ⌜ sheet .pool .tranches ≤ 8 ⌝ }
+    ensures { λ r. ⌜ r ≡ listsBad (broughtIn sheet (now (numbers .entry))) ⌝ }
+{
+    let points = sheet.pool.tranches + 1;
+    if length_differs(sheet.attachments, numbers, points) {
+        return true;
+    }
+    if length_differs(sheet.hazards, numbers, sheet.pool.names) {
+        return true;
+    }
+    if length_differs(sheet.discounts, numbers, sheet.pool.steps) {
+        return true;
+    }
+    if length_differs(sheet.accruals, numbers, sheet.pool.steps) {
+        return true;
+    }
+    length_differs(sheet.coupons, numbers, points)
+}
+
+// 4: whether the attachment points do not rise, or one is above the pool.
+pub fn attachments_bad(pool: Pool, attachments: &[u64]) -> bool
+    requires { ⌜ length (now attachments) ≡ pool .tranches + 1 ⌝ }
+    ensures { λ r. ⌜ r ≡ attachmentsBad (bare pool (now (attachments .entry))) ⌝ }
+{
+    if lists::any_fall(attachments) {
+        return true;
+    }
+    lists::any_above(attachments, UNITS)
+}
+
+// 7: whether an accrual or their sum is above its limit, or the last is 0.
+pub fn accruals_bad(pool: Pool, accruals: &[u64]) -> bool
+    requires { ⌜ (1 ≤ pool .steps) × (pool .steps ≤ 3650) × (length (now accruals) ≡ pool .steps) ⌝ }
+    ensures { λ r. ⌜ r ≡ accrualsBad (termsOf pool [] [] [] (now (accruals .entry))) ⌝ }
+{
+    if lists::any_above(accruals, UNITS) {
+        return true;
+    }
+    if 10 * UNITS < lists::sum(accruals) {
+        return true;
+    }
+    let last = pool.steps - 1;
+    accruals[last] == 0
+}

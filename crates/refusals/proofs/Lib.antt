@@ -1,0 +1,5 @@
+pub mod FirstTest
+pub mod Judged
+pub mod Limits
+pub mod Meanings
+mod Trials

@@ -1,0 +1,87 @@
+-- The edges of the limits, by computation: at each limit a sheet passes, and one past it meets that refusal.
+use Prim.Native.Nat.{ℕ}
+use mathlib.Core.Path.{_≡_, refl}
+use mathlib.Core.Bool.{false}
+use mathlib.Core.List.{List, [], _∷_}
+use Rattle.cash.specs.Units.{B}
+use Rattle.sheet.specs.Terms.{sumOf}
+use Rattle.rows.specs.Tables.{any}
+use Rattle.refusals.specs.declared.Refusal.the-variants.{Pool, Length, Recovery, Attachments, Hazard, Discount, Accrual, Coupon}
+use Rattle.refusals.specs.declared.Found.{Found}
+use Rattle.refusals.specs.declared.Found.the-variants.{Fine, Refused}
+use Rattle.refusals.specs.Tests.{poolBad, listsBad, recoveryBad, attachmentsBad, hazardsBad, discountsBad, accrualsBad, couponsBad, first, sheetTests}
+
+-- What checks 1 to 8 find of a sheet with these lists.
+found : ℕ → ℕ → List ℕ → List ℕ → List ℕ → List ℕ → List ℕ → Found
+found names recovery attachments hazards discounts accruals coupons =
+    first (sheetTests (record {
+      sheet =
+          record {
+            names = names;
+            steps = 2;
+            tranches = 1;
+            recovery = recovery;
+            attachments = attachments;
+            hazards = hazards;
+            discounts = discounts;
+            accruals = accruals;
+          };
+      number = 7;
+      coupons = coupons;
+    }) false [])
+
+-- The worked deck's lists.
+points : List ℕ
+points = 0 ∷ 300_000_000 ∷ []
+
+hazards : List ℕ
+hazards = 100_000_000 ∷ 200_000_000 ∷ []
+
+discounts : List ℕ
+discounts = 1_000_000_000 ∷ 900_000_000 ∷ []
+
+accruals : List ℕ
+accruals = 0 ∷ 1_000_000_000 ∷ []
+
+coupons : List ℕ
+coupons = 1_000_000 ∷ 500_000 ∷ []
+
+record Edges : Type 0 where
+  deck : found 2 400_000_000 points hazards discounts accruals coupons ≡ Fine
+  -- each number at its limit
+  limits : found 2 1_000_000_000 (0 ∷ 1_000_000_000 ∷ []) (0 ∷ 1_000_000_000 ∷ []) (1 ∷ 1_000_000_000 ∷ []) (0 ∷ 1 ∷ []) (0 ∷ 10_000_000 ∷ []) ≡ Fine
+  -- and one past it
+  no-names : found 0 400_000_000 points hazards discounts accruals coupons ≡ Refused Pool
+  many-names : found 126 400_000_000 points hazards discounts accruals coupons ≡ Refused Pool
+  few-hazards : found 125 400_000_000 points hazards discounts accruals coupons ≡ Refused Length
+  few-coupons : found 2 400_000_000 points hazards discounts accruals (500_000 ∷ []) ≡ Refused Length
+  recovery : found 2 1_000_000_001 points hazards discounts accruals coupons ≡ Refused Recovery
+  points-equal : found 2 400_000_000 (5 ∷ 5 ∷ []) hazards discounts accruals coupons ≡ Refused Attachments
+  points-high : found 2 400_000_000 (0 ∷ 1_000_000_001 ∷ []) hazards discounts accruals coupons ≡ Refused Attachments
+  hazard : found 2 400_000_000 points (0 ∷ 1_000_000_001 ∷ []) discounts accruals coupons ≡ Refused Hazard
+  discount-0 : found 2 400_000_000 points hazards (0 ∷ 1 ∷ []) accruals coupons ≡ Refused Discount
+  discount-high : found 2 400_000_000 points hazards (1 ∷ 1_000_000_001 ∷ []) accruals coupons ≡ Refused Discount
+  accrual : found 2 400_000_000 points hazards discounts (1_000_000_001 ∷ 1 ∷ []) coupons ≡ Refused Accrual
+  last-0 : found 2 400_000_000 points hazards discounts (1 ∷ 0 ∷ []) coupons ≡ Refused Accrual
+  coupon : found 2 400_000_000 points hazards discounts accruals (0 ∷ 10_000_001 ∷ []) ≡ Refused Coupon
+
+edges : Edges
+unfolding found points hazards discounts accruals coupons first sheetTests poolBad listsBad recoveryBad attachmentsBad hazardsBad discountsBad accrualsBad couponsBad any sumOf B
+edges =
+    record {
+      deck = refl;
+      limits = refl;
+      no-names = refl;
+      many-names = refl;
+      few-hazards = refl;
+      few-coupons = refl;
+      recovery = refl;
+      points-equal = refl;
+      points-high = refl;
+      hazard = refl;
+      discount-0 = refl;
+      discount-high = refl;
+      accrual = refl;
+      last-0 = refl;
+      coupon = refl;
+    }
