@@ -1,10 +1,26 @@
 //! What stands between people and the engine's decks.
 //!
+//! - [`input`]: how much of a file is read
 //! - [`text`]: a deck as text, and back
+//! - [`form`]: text told from a deck, and what is nearly text
+//! - [`course`]: a deck command by command, and where it stops
+//! - [`listing`]: a listing held to its deck, before a line of it is shown
 //! - [`table`]: a deck and its listing as a table for people
+//! - [`diagnosis`]: why a sheet was refused, with the place in the file
+//! - [`quote`]: odd and long words as an error may show them
+//! - [`output`]: standard output, where nothing is lost unseen
+//! - [`lock`]: one build at a time
 //!
 //! The commands and the refusals are those of the model, which has them from
 //! document 01.
 
+pub mod course;
+pub mod diagnosis;
+pub mod form;
+pub mod input;
+pub mod listing;
+pub mod lock;
+pub mod output;
+pub mod quote;
 pub mod table;
 pub mod text;

@@ -7,9 +7,11 @@
 //! Decimals are exact, but for the net value in basis points of its tranche:
 //! a quotient, rounded to the nearest thousandth, a half away from zero.
 
+use crate::course::{course, Course, Placed, Stop};
+use crate::listing::{self, Answer};
 use crate::text::Mistake;
 use lavroudem_model::commands::{
-    decode, Decoded, BACK, CUT, DELTA, FORWARD, ISSUE, OPEN, POOL, VALUE, WITHDRAW,
+    Decoded, BACK, CUT, DELTA, FORWARD, ISSUE, OPEN, POOL, VALUE, WITHDRAW,
 };
 use lavroudem_model::refusal::Refusal;
 use lavroudem_model::sheet::B;
@@ -79,29 +81,48 @@ struct Row {
 /// delta and forward line, and for each refusal. The mistake is one of the
 /// listing: it is not that of the deck.
 pub fn table(deck: &[u8], listing: &str) -> Result<String, Mistake> {
-    if deck.is_empty() && listing.is_empty() {
+    let course = course(deck);
+    let answers = listing::read(&course, listing.as_bytes())?;
+    of_answers(&course, answers)
+}
+
+/// The same of a listing that was read.
+pub fn of_answers(course: &Course, answers: Vec<Answer>) -> Result<String, Mistake> {
+    if course.commands.is_empty() && course.stop.is_none() {
         return Ok(String::new());
     }
-    let mut run = Run::new(deck);
+    let mut run = Run::default();
     let mut rows = Vec::new();
+    let mut answers = answers.into_iter();
     let mut line = 0;
-    for text in listing.lines() {
+    for Placed { read, .. } in &course.commands {
+        if read.command.is_entry() {
+            run.enter(read);
+            continue;
+        }
         line += 1;
-        let row = run.row(text).map_err(|reason| Mistake { line, reason })?;
-        rows.extend(row);
+        let row = match answers.next() {
+            Some(Ok(figures)) => run.accepted(read, &figures),
+            Some(Err(refusal)) => Ok(Some(run.refused(read, refusal))),
+            None => Err("the listing ends before its deck".to_string()),
+        };
+        rows.extend(row.map_err(|reason| Mistake { line, reason })?);
     }
-    if run.next_call().is_some() || !run.deck.is_empty() {
-        line += 1;
-        let reason = "the listing ends before its deck".to_string();
-        return Err(Mistake { line, reason });
-    }
+    rows.extend(course.stop.map(deck_row));
     Ok(NOTE.to_string() + &aligned(&rows))
 }
 
+/// The last row: the deck is read no further.
+fn deck_row(Stop { refusal, offset }: Stop) -> Row {
+    Row {
+        asked: [cell("deck"), cell(""), cell(""), cell("")],
+        answer: Err(format!("{}, at byte {offset}", in_words(refusal))),
+    }
+}
+
 /// What deck and listing have told up to a line.
-struct Run<'a> {
-    /// The commands to come.
-    deck: &'a [u8],
+#[derive(Default)]
+struct Run {
     /// m and r of the pool; 0 without one.
     steps: u64,
     tranches: u64,
@@ -109,67 +130,24 @@ struct Run<'a> {
     position: Option<i128>,
 }
 
-impl Run<'_> {
-    fn new(deck: &[u8]) -> Run<'_> {
-        Run {
-            deck,
-            steps: 0,
-            tranches: 0,
-            attachments: Vec::new(),
-            position: None,
-        }
-    }
-
-    /// The row of the next line, if it has one.
-    fn row(&mut self, line: &str) -> Result<Option<Row>, String> {
-        let mut fields = line.split(' ');
-        let word = fields.next().unwrap_or_default();
-        let numbers: Result<Vec<i128>, _> = fields.map(str::parse).collect();
-        let numbers = numbers.map_err(|_| format!("`{line}` is no line of a listing"))?;
-        if word == "deck" {
-            return self.deck_row(&numbers).map(Some);
-        }
-        let call = self.next_call().filter(|call| call.command.word == word);
-        let call = call.ok_or_else(|| format!("`{line}` does not belong to the deck's call"))?;
-        match numbers[..] {
-            [0, ref figures @ ..] => self.accepted(&call, figures),
-            [number] => Ok(Some(Row {
-                asked: self.asked(&call),
-                answer: Err(in_words(refusal(number)?)),
-            })),
-            _ => Err(format!("`{line}` is no line of a listing")),
-        }
-    }
-
-    /// The last row: the deck is read no further.
-    fn deck_row(&mut self, numbers: &[i128]) -> Result<Row, String> {
-        let &[number, offset] = numbers else {
-            return Err("`deck` comes with a refusal and an offset".to_string());
-        };
-        self.deck = &[];
-        let words = in_words(refusal(number)?);
-        Ok(Row {
-            asked: [cell("deck"), cell(""), cell(""), cell("")],
-            answer: Err(format!("{words}, at byte {offset}")),
-        })
-    }
-
-    /// The next command that prints a line. Those before it add to the sheet.
-    fn next_call(&mut self) -> Option<Decoded> {
-        while !self.deck.is_empty() {
-            let read = decode(self.deck).ok()?;
-            self.deck = &self.deck[read.length..];
-            match (read.command.byte, read.operands()) {
-                (POOL, &[_, steps, tranches, _, _]) => {
-                    self.steps = steps;
-                    self.tranches = tranches;
-                }
-                (CUT, &[point]) => self.attachments.push(point),
-                _ if read.command.is_entry() => {}
-                _ => return Some(read),
+impl Run {
+    /// A command that adds to the sheet.
+    fn enter(&mut self, read: &Decoded) {
+        match (read.command.byte, read.operands()) {
+            (POOL, &[_, steps, tranches, _, _]) => {
+                self.steps = steps;
+                self.tranches = tranches;
             }
+            (CUT, &[point]) => self.attachments.push(point),
+            _ => {}
         }
-        None
+    }
+
+    fn refused(&self, call: &Decoded, refusal: Refusal) -> Row {
+        Row {
+            asked: self.asked(call),
+            answer: Err(in_words(refusal)),
+        }
     }
 
     /// Only a line with figures to show has a row; the others may move the
@@ -265,13 +243,6 @@ fn cell(text: &str) -> String {
 }
 
 // ---- refusals
-
-fn refusal(number: i128) -> Result<Refusal, String> {
-    let known = Refusal::ALL
-        .into_iter()
-        .find(|refusal| i128::from(refusal.number()) == number);
-    known.ok_or_else(|| format!("no refusal has the number {number}"))
-}
 
 fn in_words(refusal: Refusal) -> String {
     let (number, word) = (refusal.number(), refusal.word());

@@ -10,8 +10,12 @@
 //! text gives the same deck again.
 //!
 //! Only what a deck cannot hold is a mistake here. Limits of the sheet are
-//! the engine's to refuse.
+//! the engine's to refuse, and so is a deck that is too long: of that the
+//! deck is made up to one byte more than the longest, and no further.
 
+use crate::form::{as_text, looks_like_text, nearly_text, without_mark, Form};
+use crate::input::MAX_TEXT;
+use crate::quote;
 use lavroudem_model::commands::{decode, Command, COMMANDS};
 use lavroudem_model::deck::MAX_DECK;
 use std::fmt;
@@ -39,64 +43,114 @@ impl fmt::Display for Mistake {
     }
 }
 
-/// How the bytes of a file are taken.
-#[derive(Clone, Copy, Debug, PartialEq, Eq)]
-pub enum Form {
-    Text,
-    Binary,
-    /// Text if they look like it.
-    Either,
+/// A deck, and the lines of the text that it was written in.
+#[derive(Clone, Debug, Default, PartialEq, Eq)]
+pub struct Assembled {
+    pub deck: Vec<u8>,
+    /// None of a deck that came as it is.
+    pub lines: Lines,
 }
 
-/// The deck that a file holds, as text or as it is.
-pub fn read(bytes: Vec<u8>, form: Form) -> Result<Vec<u8>, Mistake> {
-    match form {
-        Form::Text => assemble(as_text(&bytes)?),
-        Form::Either if looks_like_text(&bytes) => assemble(as_text(&bytes)?),
-        Form::Either | Form::Binary => Ok(bytes),
+/// Which line of a text gave which byte of its deck: offset and line of each
+/// line that gave any, in their order.
+#[derive(Clone, Debug, Default, PartialEq, Eq)]
+pub struct Lines(Vec<(usize, usize)>);
+
+impl Lines {
+    /// The line that gave this byte, if there was a text.
+    pub fn line_of(&self, offset: usize) -> Option<usize> {
+        let after = self.0.partition_point(|&(start, _)| start <= offset);
+        self.0[..after].last().map(|&(_, line)| line)
+    }
+
+    /// For a file that a later command reads.
+    pub fn to_text(&self) -> String {
+        let line = |(offset, line): &(usize, usize)| format!("{offset} {line}\n");
+        self.0.iter().map(line).collect()
+    }
+
+    pub fn from_text(text: &str) -> Option<Lines> {
+        let pair = |line: &str| {
+            let (offset, line) = line.split_once(' ')?;
+            Some((decimal(offset)? as usize, decimal(line)? as usize))
+        };
+        text.lines().map(pair).collect::<Option<_>>().map(Lines)
     }
 }
 
-/// Valid UTF-8, without control characters other than those of lines and
-/// tabs. A deck with a sheet in it has a byte 01, so it never looks so.
-pub fn looks_like_text(bytes: &[u8]) -> bool {
-    let allowed = |c: char| !c.is_control() || matches!(c, '\t' | '\n' | '\r');
-    std::str::from_utf8(bytes).is_ok_and(|text| text.chars().all(allowed))
-}
-
-fn as_text(bytes: &[u8]) -> Result<&str, Mistake> {
-    std::str::from_utf8(bytes).map_err(|fault| {
-        let before = &bytes[..fault.valid_up_to()];
-        Mistake {
-            line: 1 + before.iter().filter(|&&byte| byte == b'\n').count(),
-            reason: "not UTF-8 text".to_string(),
-        }
-    })
+/// The deck that a file holds, as text or as it is. A file that is nearly
+/// text is no deck, and is told what keeps it from being text.
+pub fn read(bytes: Vec<u8>, form: Form) -> Result<Assembled, Mistake> {
+    if form != Form::Binary && bytes.len() > MAX_TEXT {
+        return Err(too_long(&bytes));
+    }
+    let is_text = match form {
+        Form::Text => true,
+        Form::Either => looks_like_text(without_mark(&bytes)),
+        Form::Binary => false,
+    };
+    if is_text {
+        return assemble_with_lines(as_text(&bytes)?);
+    }
+    match nearly_text(&bytes) {
+        Some(mistake) if form == Form::Either => Err(mistake),
+        _ => Ok(Assembled {
+            deck: bytes,
+            lines: Lines::default(),
+        }),
+    }
 }
 
 /// The deck of a text; the first mistake is named.
 pub fn assemble(text: &str) -> Result<Vec<u8>, Mistake> {
-    let mut deck = Vec::new();
-    for (place, line) in text.lines().enumerate() {
-        let bytes = assemble_line(line).map_err(|reason| Mistake {
-            line: place + 1,
-            reason,
-        })?;
-        deck.extend(bytes);
-    }
-    Ok(deck)
+    assemble_with_lines(text).map(|assembled| assembled.deck)
 }
 
-fn assemble_line(line: &str) -> Result<Vec<u8>, String> {
+/// The same with its lines. It stops a byte past the longest deck: the engine
+/// refuses that by its length, whatever else would come.
+pub fn assemble_with_lines(text: &str) -> Result<Assembled, Mistake> {
+    let mut assembled = Assembled::default();
+    let Assembled { deck, lines } = &mut assembled;
+    for (place, line) in text.lines().enumerate() {
+        let line_number = place + 1;
+        let mistake = |reason| Mistake {
+            line: line_number,
+            reason,
+        };
+        let (bytes, times) = assemble_line(line).map_err(mistake)?;
+        if !bytes.is_empty() {
+            lines.0.push((deck.len(), line_number));
+        }
+        for _ in 0..times {
+            deck.extend(&bytes);
+            if deck.len() > MAX_DECK {
+                deck.truncate(MAX_DECK + 1);
+                return Ok(assembled);
+            }
+        }
+    }
+    Ok(assembled)
+}
+
+fn too_long(text: &[u8]) -> Mistake {
+    let ends = text[..MAX_TEXT].iter().filter(|&&byte| byte == b'\n');
+    Mistake {
+        line: 1 + ends.count(),
+        reason: format!("here the text passes {MAX_TEXT} bytes, the most it may have"),
+    }
+}
+
+/// The bytes of a line, and how often they come.
+fn assemble_line(line: &str) -> Result<(Vec<u8>, usize), String> {
     let code = line.split('#').next().unwrap_or_default();
     let words: Vec<&str> = code.split_whitespace().collect();
     let (words, times) = without_repeat(&words)?;
     match words {
-        [] => Ok(vec![]),
-        [BYTES, pairs @ ..] => Ok(hexadecimal(pairs)?.repeat(times)),
+        [] => Ok((vec![], 0)),
+        [BYTES, pairs @ ..] => Ok((hexadecimal(pairs)?, times)),
         [word, operands @ ..] => {
             let command = by_word(word).ok_or_else(|| unknown(word))?;
-            Ok(command.encode(&numbers(command, operands)?).repeat(times))
+            Ok((command.encode(&numbers(command, operands)?), times))
         }
     }
 }
@@ -105,7 +159,13 @@ fn by_word(word: &str) -> Option<&'static Command> {
     COMMANDS.iter().find(|command| command.word == word)
 }
 
+/// Whether a line of a text may start so.
+pub fn is_command(word: &str) -> bool {
+    word == BYTES || by_word(word).is_some()
+}
+
 fn unknown(word: &str) -> String {
+    let word = quote::word(word);
     let words: Vec<&str> = COMMANDS.iter().map(|command| command.word).collect();
     format!(
         "no command `{word}`; there are {}, {BYTES}",
@@ -138,7 +198,10 @@ fn hexadecimal(pairs: &[&str]) -> Result<Vec<u8>, String> {
     let byte = |pair: &&str| {
         let is_pair = pair.len() == 2 && pair.bytes().all(|digit| digit.is_ascii_hexdigit());
         let byte = u8::from_str_radix(pair, 16).ok().filter(|_| is_pair);
-        byte.ok_or_else(|| format!("`{pair}` is not a byte in two hexadecimal digits"))
+        byte.ok_or_else(|| {
+            let pair = quote::word(pair);
+            format!("`{pair}` is not a byte in two hexadecimal digits")
+        })
     };
     pairs.iter().map(byte).collect()
 }
@@ -162,13 +225,14 @@ fn largest(width: usize) -> u64 {
 }
 
 fn number(name: &str, largest: u64, word: &str) -> Result<u64, String> {
+    let shown = quote::word(word);
     if !is_digits(word) {
-        return Err(format!("{name} `{word}` is not a whole number"));
+        return Err(format!("{name} `{shown}` is not a whole number"));
     }
     // A number that does not fit 64 bits is above any limit.
     decimal(word)
         .filter(|&number| number <= largest)
-        .ok_or_else(|| format!("{name} {word} is too large, at most {largest}"))
+        .ok_or_else(|| format!("{name} {shown} is too large, at most {largest}"))
 }
 
 /// The parser of the library would take a `+` too.

@@ -4,7 +4,10 @@
 use lavroudem_model::deck::MAX_DECK;
 use lavroudem_model::decks;
 use lavroudem_model::random::Random;
-use lavroudem_tool::text::{assemble, disassemble, looks_like_text, read, Form};
+use lavroudem_tool::form::{looks_like_text, Form};
+use lavroudem_tool::input::{self, MAX_TEXT};
+use lavroudem_tool::text::{assemble, assemble_with_lines, disassemble, read, Assembled, Lines};
+use std::io::{self, Read};
 use std::path::Path;
 
 const WORKED_TEXT: &str = "\
@@ -55,8 +58,10 @@ fn operands_stand_low_byte_first() {
 
 // ---- the round trip
 
+/// Of a deck that is too long, one byte more than the longest comes back.
 fn comes_back(deck: &[u8]) {
     let text = disassemble(deck);
+    let deck = &deck[..deck.len().min(MAX_DECK + 1)];
     assert!(looks_like_text(text.as_bytes()));
     match assemble(&text) {
         Ok(again) => assert!(again == deck, "{deck:02X?}\n{text}"),
@@ -89,7 +94,7 @@ fn random_bytes_come_back() {
     for command in 0..=255 {
         comes_back(&[command; 33]);
     }
-    comes_back(&[0x08; 2 * MAX_DECK + 1]);
+    comes_back(&[0x08; MAX_DECK + 1]);
 }
 
 #[test]
@@ -185,14 +190,166 @@ fn text_is_told_from_a_deck() {
     assert!(!looks_like_text(b"open \xFF"));
 }
 
+fn as_deck(bytes: &[u8], form: Form) -> Result<Vec<u8>, String> {
+    match read(bytes.to_vec(), form) {
+        Ok(assembled) => Ok(assembled.deck),
+        Err(mistake) => Err(mistake.to_string()),
+    }
+}
+
 #[test]
 fn a_form_can_be_forced() {
-    let text = b"open\n".to_vec();
-    assert_eq!(read(text.clone(), Form::Either), Ok(vec![0x08]));
-    assert_eq!(read(text.clone(), Form::Text), Ok(vec![0x08]));
-    assert_eq!(read(text.clone(), Form::Binary), Ok(text));
-    assert_eq!(read(worked_deck(), Form::Either), Ok(worked_deck()));
-    assert!(read(worked_deck(), Form::Text).is_err());
-    let mistake = read(b"open\nopen # \xFF\n".to_vec(), Form::Text).unwrap_err();
-    assert_eq!(mistake.to_string(), "line 2: not UTF-8 text");
+    let text = b"open\n";
+    assert_eq!(as_deck(text, Form::Either), Ok(vec![0x08]));
+    assert_eq!(as_deck(text, Form::Text), Ok(vec![0x08]));
+    assert_eq!(as_deck(text, Form::Binary), Ok(text.to_vec()));
+    assert_eq!(as_deck(&worked_deck(), Form::Either), Ok(worked_deck()));
+    assert!(as_deck(&worked_deck(), Form::Text).is_err());
+}
+
+// ---- what is nearly text
+
+#[test]
+fn a_byte_order_mark_is_skipped() {
+    for form in [Form::Text, Form::Either] {
+        assert_eq!(as_deck(b"\xEF\xBB\xBFopen\n", form), Ok(vec![0x08]));
+    }
+    let odd = as_deck(b"\xEF\xBB\xBFopen \xFF\n", Form::Either).unwrap_err();
+    assert!(
+        odd.starts_with("line 1: byte 9 of the line is FF, "),
+        "{odd}"
+    );
+}
+
+const UTF_16: &str = "line 1: this is UTF-16; a text deck is UTF-8";
+
+const NEARLY_TEXT: [(&[u8], &str); 8] = [
+    (
+        b"open\nopen # \xFF\n",
+        "line 2: byte 8 of the line is FF, which is not UTF-8",
+    ),
+    (
+        b"open\n\x0Cissue 7\n",
+        "line 2: byte 1 of the line is 0C, a control character",
+    ),
+    (
+        b"# caf\xE9\nopen\n",
+        "line 1: byte 6 of the line is E9, which is not UTF-8",
+    ),
+    (
+        b"open\n\0",
+        "line 2: byte 1 of the line is 00, a control character",
+    ),
+    (b"\xFF\xFEo\0p\0e\0n\0", UTF_16),
+    (b"\xFE\xFF\0o\0p\0e\0n", UTF_16),
+    (b"o\0p\0e\0n\0", UTF_16),
+    (b"\0o\0p\0e\0n", UTF_16),
+];
+
+#[test]
+fn what_is_nearly_text_is_told_so() {
+    for (bytes, told) in NEARLY_TEXT {
+        let mistake = as_deck(bytes, Form::Either).unwrap_err();
+        assert!(mistake.starts_with(told), "{mistake}");
+        assert_eq!(as_deck(bytes, Form::Binary), Ok(bytes.to_vec()));
+    }
+    let mistake = as_deck(b"open\nopen # \xFF\n", Form::Text).unwrap_err();
+    assert!(mistake.starts_with("line 2: byte 8 of the line is FF, "));
+}
+
+/// The verdict on a deck, damaged or not, is the engine's.
+#[test]
+fn no_deck_is_nearly_text() {
+    let mut random = Random::new(0x7E87_0003);
+    for _ in 0..20_000 {
+        let deck = decks::any(&mut random);
+        if !looks_like_text(&deck) {
+            assert_eq!(as_deck(&deck, Form::Either), Ok(deck));
+        }
+    }
+}
+
+// ---- how much is read and made
+
+/// A reader that never ends, and counts what it gave.
+struct Endless {
+    unit: &'static [u8],
+    given: usize,
+}
+
+impl Read for Endless {
+    fn read(&mut self, buffer: &mut [u8]) -> io::Result<usize> {
+        for byte in &mut *buffer {
+            *byte = self.unit[self.given % self.unit.len()];
+            self.given += 1;
+        }
+        Ok(buffer.len())
+    }
+}
+
+#[test]
+fn an_endless_file_is_read_no_further_than_it_matters() {
+    for (unit, form, most) in [
+        (&b"\0"[..], Form::Either, MAX_DECK),
+        (b"\0", Form::Binary, MAX_DECK),
+        (b"# on and on\n", Form::Binary, MAX_DECK),
+        (b"# on and on\n", Form::Either, MAX_TEXT),
+        (b"# on and on\n", Form::Text, MAX_TEXT),
+        ("# größer\n".as_bytes(), Form::Either, MAX_TEXT),
+        (b"\0", Form::Text, MAX_TEXT),
+    ] {
+        let mut endless = Endless { unit, given: 0 };
+        let bytes = input::read(&mut endless, form).unwrap();
+        assert_eq!(bytes.len(), most + 1);
+        // The reader of the library may ask for a whole buffer at the end.
+        assert!(endless.given <= 2 * most, "{}", endless.given);
+        let deck = as_deck(&bytes, form);
+        if most == MAX_DECK {
+            assert_eq!(deck.unwrap().len(), MAX_DECK + 1);
+        } else {
+            let passes = ": here the text passes 4194304 bytes, the most it may have";
+            assert!(deck.unwrap_err().ends_with(passes));
+        }
+    }
+}
+
+#[test]
+fn a_deck_is_made_up_to_a_byte_more_than_the_longest() {
+    let text = "step 1 0 x 65536\n".repeat(2_000);
+    assert_eq!(assemble(&text).unwrap().len(), MAX_DECK + 1);
+    let opens = format!("open x {MAX_DECK}\n");
+    assert_eq!(assemble(&opens).unwrap().len(), MAX_DECK);
+    assert_eq!(
+        assemble(&format!("{opens}open")).unwrap().len(),
+        MAX_DECK + 1
+    );
+}
+
+#[test]
+fn lines_are_those_of_the_text() {
+    let text = "# a sheet\n\nopen\nback 1 x 3\n\nbytes ff\n";
+    let Assembled { lines, .. } = assemble_with_lines(text).unwrap();
+    let line_of = |offset| lines.line_of(offset).unwrap();
+    let found: Vec<usize> = (0..11).map(line_of).collect();
+    assert_eq!(found, [3, 4, 4, 4, 4, 4, 4, 4, 4, 4, 6]);
+    assert_eq!(Lines::from_text(&lines.to_text()), Some(lines));
+    assert_eq!(Lines::default().line_of(0), None);
+    assert_eq!(Lines::from_text("1 x\n"), None);
+}
+
+#[test]
+fn words_are_cut_and_escaped_in_errors() {
+    let long = "y".repeat(1_000_000);
+    for line in [
+        long.clone(),
+        format!("issue {long}"),
+        format!("issue {}", "9".repeat(1_000_000)),
+        format!("bytes {long}"),
+    ] {
+        let mistake = assemble(&line).unwrap_err().to_string();
+        assert!(mistake.len() < 200 && mistake.contains("..."), "{mistake}");
+    }
+    let escape = assemble("\u{1B}[31mred\u{202E}").unwrap_err().to_string();
+    let shown = "line 1: no command `\\u{1b}[31mred\\u{202e}`; there are pool, ";
+    assert!(escape.starts_with(shown), "{escape}");
 }

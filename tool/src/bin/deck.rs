@@ -1,99 +1,271 @@
-//! Decks as text and as bytes, and listings as tables.
+//! Decks as text and as bytes, and listings shown.
 
-use lavroudem_tool::table::table;
-use lavroudem_tool::text::{disassemble, read, Form, Mistake};
+use lavroudem_model::deck::MAX_DECK;
+use lavroudem_tool::course::course;
+use lavroudem_tool::form::Form;
+use lavroudem_tool::text::{disassemble, read, Assembled, Lines};
+use lavroudem_tool::{diagnosis, input, listing, lock, output, quote, table};
 use std::env;
 use std::ffi::{OsStr, OsString};
-use std::fs;
+use std::fs::{self, File};
 use std::io::{self, Read, Write};
+use std::os::fd::AsFd;
+use std::path::Path;
 use std::process::ExitCode;
 
 const USAGE: &str = "\
-usage: deck assemble [--text | --binary] FILE    the deck of a text; a deck is passed on as it is
-       deck disassemble DECK                     the text of a deck
-       deck table DECK LISTING                   the table of a deck by the listing it printed
+usage: deck assemble [--text | --binary] [--into FOLDER] FILE
+           the deck of a text; a deck is passed on as it is. Into a folder: as its file `deck`,
+           and which line gave which byte as its file `lines`
+       deck disassemble DECK
+           the text of a deck
+       deck show [--table] [--strict] [--lines LINES] [--name NAME] DECK LISTING
+           the listing, or its table, if it is whole and that of the deck; then, on standard
+           error, why the sheet was refused or the deck stopped, by the lines of NAME
+       deck lock
+           locks standard input, a file that the caller keeps open; waits for another who has it
+       deck version
 A FILE - is standard input. Without an option a file is text if it is UTF-8 without control
 characters other than tabs and line ends. Exit status: 0 done, 1 a file or its content is at
-fault, 2 wrong usage.
+fault, 2 wrong usage, 4 the deck stopped (its listing is shown), 5 the output was lost or the
+listing is not whole (nothing is shown of it), 6 with --strict: a call was refused.
 ";
+
+const FILE_FAULT: u8 = 1;
+const WRONG_USAGE: u8 = 2;
+const STOPPED: u8 = 4;
+const OUTPUT_LOST: u8 = 5;
+const REFUSED: u8 = 6;
+
+/// A status other than 0, and what to say on standard error.
+struct Failure {
+    status: u8,
+    words: String,
+}
+
+/// The status of what was done.
+type Done = Result<u8, Failure>;
 
 fn main() -> ExitCode {
     let words: Vec<OsString> = env::args_os().skip(1).collect();
-    let words: Vec<&OsStr> = words.iter().map(|word| &word[..]).collect();
-    let Some(done) = run(&words) else {
-        eprint!("{USAGE}");
-        return ExitCode::from(2);
+    let Some(done) = Request::parse(&words).and_then(|request| request.run()) else {
+        tell(USAGE);
+        return ExitCode::from(WRONG_USAGE);
     };
-    let written = done.and_then(|bytes| write(&bytes));
-    if let Err(fault) = written {
-        eprintln!("{fault}");
-        return ExitCode::FAILURE;
-    }
-    ExitCode::SUCCESS
-}
-
-/// What the words of the command line ask for: the bytes to print, or what
-/// is at fault. Nothing if they ask for nothing known.
-fn run(words: &[&OsStr]) -> Option<Result<Vec<u8>, String>> {
-    let command = words.first()?.to_str()?;
-    let operands = &words[1..];
-    match (command, operands) {
-        ("assemble", &[file]) => Some(deck_of(file, Form::Either)),
-        ("assemble", &[option, file]) => Some(deck_of(file, form(option)?)),
-        ("disassemble", &[deck]) => Some(text_of(deck)),
-        ("table", &[deck, listing]) => Some(table_of(deck, listing)),
-        _ => None,
+    match done {
+        Ok(status) => ExitCode::from(status),
+        Err(Failure { status, words }) => {
+            tell(&format!("{words}\n"));
+            ExitCode::from(status)
+        }
     }
 }
 
-fn form(option: &OsStr) -> Option<Form> {
-    match option.to_str()? {
-        "--text" => Some(Form::Text),
-        "--binary" => Some(Form::Binary),
-        _ => None,
+/// Says it on standard error, if that is there: the status tells it anyway.
+fn tell(words: &str) {
+    let _ = io::stderr().write_all(words.as_bytes());
+}
+
+/// The words of the command line.
+struct Request<'a> {
+    command: &'a str,
+    /// Options without a value.
+    flags: Vec<&'a str>,
+    /// Options with the word after them.
+    values: Vec<(&'a str, &'a OsStr)>,
+    operands: Vec<&'a OsStr>,
+}
+
+impl<'a> Request<'a> {
+    fn parse(words: &'a [OsString]) -> Option<Request<'a>> {
+        let (command, rest) = words.split_first()?;
+        let mut request = Request {
+            command: command.to_str()?,
+            flags: Vec::new(),
+            values: Vec::new(),
+            operands: Vec::new(),
+        };
+        let mut rest = rest.iter();
+        while let Some(word) = rest.next() {
+            match word.to_str() {
+                Some(option @ ("--lines" | "--name" | "--into")) => {
+                    request.values.push((option, rest.next()?));
+                }
+                Some(option) if option.starts_with("--") && option != "--" => {
+                    request.flags.push(option)
+                }
+                Some("--") => request.operands.extend(rest.by_ref().map(|word| &word[..])),
+                _ => request.operands.push(word),
+            }
+        }
+        Some(request)
+    }
+
+    /// Nothing if the words ask for nothing known.
+    fn run(&self) -> Option<Done> {
+        match (self.command, &self.operands[..]) {
+            ("assemble", &[file]) => {
+                self.only(&["--text", "--binary"], &["--into"])?;
+                Some(self.assemble(file, self.form()?))
+            }
+            ("disassemble", &[deck]) => {
+                self.only(&[], &[])?;
+                Some(disassembled(deck))
+            }
+            ("show", &[deck, listing]) => {
+                self.only(&["--table", "--strict"], &["--lines", "--name"])?;
+                Some(self.show(deck, listing))
+            }
+            ("lock", []) => self.only(&[], &[]).map(|()| locked()),
+            ("version", []) => self.only(&[], &[]).map(|()| version()),
+            _ => None,
+        }
+    }
+
+    fn only(&self, flags: &[&str], values: &[&str]) -> Option<()> {
+        let known = self.flags.iter().all(|flag| flags.contains(flag))
+            && self
+                .values
+                .iter()
+                .all(|(option, _)| values.contains(option));
+        known.then_some(())
+    }
+
+    fn has(&self, flag: &str) -> bool {
+        self.flags.contains(&flag)
+    }
+
+    fn value(&self, option: &str) -> Option<&'a OsStr> {
+        let found = self.values.iter().find(|(name, _)| *name == option);
+        found.map(|&(_, value)| value)
+    }
+
+    fn form(&self) -> Option<Form> {
+        match (self.has("--text"), self.has("--binary")) {
+            (true, true) => None,
+            (true, false) => Some(Form::Text),
+            (false, true) => Some(Form::Binary),
+            (false, false) => Some(Form::Either),
+        }
+    }
+
+    fn assemble(&self, file: &OsStr, form: Form) -> Done {
+        let bytes = bytes_of(file, |open| input::read(open, form))?;
+        let assembled = read(bytes, form).map_err(|mistake| at_fault(file, &mistake))?;
+        match self.value("--into") {
+            Some(folder) => write_into(Path::new(folder), &assembled),
+            None => print(&assembled.deck),
+        }
+    }
+
+    /// Prints the listing or its table, then what is to be said of it.
+    fn show(&self, deck: &OsStr, printed: &OsStr) -> Done {
+        let deck_file = deck;
+        let deck = bytes_of(deck_file, input::read_deck)?;
+        let bytes = bytes_of(printed, read_all)?;
+        let lines = self.lines()?;
+        let course = course(&deck);
+        let not_whole = |mistake| Failure {
+            status: OUTPUT_LOST,
+            ..at_fault(printed, &mistake)
+        };
+        let answers = listing::read(&course, &bytes).map_err(not_whole)?;
+        let findings = diagnosis::findings(&deck, &course, &answers);
+        let refused = answers.iter().any(|answer| answer.is_err());
+        if self.has("--table") {
+            let table = table::of_answers(&course, answers).map_err(not_whole)?;
+            print(table.as_bytes())?;
+        } else {
+            print(&bytes)?;
+        }
+        let name = name(self.value("--name").unwrap_or(deck_file));
+        tell(&diagnosis::told(&name, &lines, &findings));
+        Ok(match course.stop {
+            Some(_) => STOPPED,
+            None if refused && self.has("--strict") => REFUSED,
+            None => 0,
+        })
+    }
+
+    fn lines(&self) -> Result<Lines, Failure> {
+        let Some(file) = self.value("--lines") else {
+            return Ok(Lines::default());
+        };
+        let text = String::from_utf8_lossy(&bytes_of(file, read_all)?).into_owned();
+        Lines::from_text(&text).ok_or_else(|| at_fault(file, &"no lines of a text"))
     }
 }
 
-fn deck_of(file: &OsStr, form: Form) -> Result<Vec<u8>, String> {
-    read(bytes_of(file)?, form).map_err(|mistake| at_fault(file, &mistake))
-}
-
-fn text_of(deck: &OsStr) -> Result<Vec<u8>, String> {
-    Ok(disassemble(&bytes_of(deck)?).into_bytes())
-}
-
-fn table_of(deck: &OsStr, listing: &OsStr) -> Result<Vec<u8>, String> {
-    let deck = bytes_of(deck)?;
-    let text = String::from_utf8_lossy(&bytes_of(listing)?).into_owned();
-    match table(&deck, &text) {
-        Ok(table) => Ok(table.into_bytes()),
-        Err(mistake) => Err(at_fault(listing, &mistake)),
+fn disassembled(deck: &OsStr) -> Done {
+    let bytes = bytes_of(deck, input::read_deck)?;
+    // Of a longer one not all was read, so its text would be that of another.
+    if bytes.len() > MAX_DECK {
+        return Err(at_fault(deck, &"longer than any deck"));
     }
+    print(disassemble(&bytes).as_bytes())
 }
 
-fn bytes_of(file: &OsStr) -> Result<Vec<u8>, String> {
-    let mut bytes = Vec::new();
-    let read = if file == "-" {
-        io::stdin().read_to_end(&mut bytes).map(|_| bytes)
+fn locked() -> Done {
+    let waiting = || tell("lavroudem: another run builds here; waiting for it\n");
+    let fault = |fault| failure(FILE_FAULT, format!("standard input: {fault}"));
+    lock::lock(io::stdin(), waiting).map_err(fault).map(|()| 0)
+}
+
+/// That this answers shows that the program is there and whole enough to run:
+/// a shell takes an empty file for a script that does nothing, with status 0.
+fn version() -> Done {
+    print(concat!("lavroudem-tool ", env!("CARGO_PKG_VERSION"), "\n").as_bytes())
+}
+
+fn write_into(folder: &Path, assembled: &Assembled) -> Done {
+    let write = |name: &str, bytes: &[u8]| {
+        let file = folder.join(name);
+        fs::write(&file, bytes).map_err(|fault| Failure {
+            status: OUTPUT_LOST,
+            ..at_fault(file.as_os_str(), &fault)
+        })
+    };
+    write("deck", &assembled.deck)?;
+    write("lines", assembled.lines.to_text().as_bytes())?;
+    Ok(0)
+}
+
+/// The bytes of a file, or of standard input, by a reader of either.
+fn bytes_of(
+    file: &OsStr,
+    read: impl Fn(&mut dyn Read) -> io::Result<Vec<u8>>,
+) -> Result<Vec<u8>, Failure> {
+    // The library's own handle takes a descriptor that cannot be read for an empty file.
+    let open = if file == "-" {
+        io::stdin().as_fd().try_clone_to_owned().map(File::from)
     } else {
-        fs::read(file)
+        File::open(file)
     };
-    read.map_err(|fault| format!("{}: {fault}", name(file)))
+    let bytes = open.and_then(|mut open| read(&mut open));
+    bytes.map_err(|fault| at_fault(file, &fault))
 }
 
-fn write(bytes: &[u8]) -> Result<(), String> {
-    let mut out = io::stdout();
-    let written = out.write_all(bytes).and_then(|()| out.flush());
-    written.map_err(|fault| format!("standard output: {fault}"))
+fn read_all(file: &mut dyn Read) -> io::Result<Vec<u8>> {
+    let mut bytes = Vec::new();
+    file.read_to_end(&mut bytes).map(|_| bytes)
 }
 
-fn at_fault(file: &OsStr, mistake: &Mistake) -> String {
-    format!("{}: {mistake}", name(file))
+fn print(bytes: &[u8]) -> Done {
+    let lost = |fault| failure(OUTPUT_LOST, format!("standard output: {fault}"));
+    output::print(bytes).map_err(lost).map(|()| 0)
+}
+
+fn failure(status: u8, words: String) -> Failure {
+    Failure { status, words }
+}
+
+fn at_fault(file: &OsStr, fault: &dyn std::fmt::Display) -> Failure {
+    failure(FILE_FAULT, format!("{}: {fault}", name(file)))
 }
 
 fn name(file: &OsStr) -> String {
     if file == "-" {
         return "standard input".to_string();
     }
-    file.to_string_lossy().into_owned()
+    quote::name(&file.to_string_lossy())
 }
