@@ -39,7 +39,8 @@ outer u = u .before .before .before
 abbrev turn : tie.After-tranche-outstanding Inv-loop μ-loop Inv-search μ-search → tie.In-loop Inv-loop μ-loop Inv-search μ-search
 turn l = l .before .before
 
-abbrev left-known : tie.After-shared-slice-known7 Inv-loop μ-loop Inv-search μ-search → tie.After-tranche-outstanding Inv-loop μ-loop Inv-search μ-search
+abbrev left-known : tie.After-shared-slice-known7 Inv-loop μ-loop Inv-search μ-search →
+    tie.After-tranche-outstanding Inv-loop μ-loop Inv-search μ-search
 left-known p = p .before .before .before
 
 search-holds : tie.Need-search-holds Inv-loop μ-loop Inv-search μ-search
