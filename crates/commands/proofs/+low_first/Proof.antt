@@ -85,7 +85,8 @@ low-first-returns-2 :
     low-first.Post
 low-first-returns-2 t c =
     let a = start (c .before) .args in
-    more (a .width) (a .deck .now) (a .at) (c .low-first .result) (c .before .before .if1 .left) (c .before .shared-slice-known2 .given (a .at) .fits) (c .low-first .ensures .0) (c .low-first .ensures .1)
+    more (a .width) (a .deck .now) (a .at) (c .low-first .result) (c .before .before .if1 .left) (c .before .shared-slice-known2 .given (a .at) .fits)
+    (c .low-first .ensures .0) (c .low-first .ensures .1)
 
 pub +low-first-spec : {M : Type 1} → statement M
 +low-first-spec =

@@ -44,8 +44,7 @@ cast-put-decimal : tie.Need-cast-put-decimal
 cast-put-decimal c = search needs
 
 put-decimal-requires : tie.Need-put-decimal-requires
-put-decimal-requires c κs =
-    omega (arith, byte-long (c .before .before .answer .given .0 .0) (c .before .known-told .given .0 .1))
+put-decimal-requires c κs = omega (arith, byte-long (c .before .before .answer .given .0 .0) (c .before .known-told .given .0 .1))
 
 same-length : tie.Need-same-length
 same-length c = search needs
@@ -63,8 +62,7 @@ enum-told : tie.Need-enum-told
 enum-told c = search needs
 
 put-decimal-requires-2 : tie.Need-put-decimal-requires-2
-put-decimal-requires-2 c κs =
-    omega (arith, zero-long)
+put-decimal-requires-2 c κs = omega (arith, zero-long)
 
 same-length-2 : tie.Need-same-length-2
 same-length-2 c = search needs
@@ -80,8 +78,7 @@ enum-known-answer-2 : tie.Need-enum-known-answer-2
 enum-known-answer-2 c = search needs
 
 put-decimal-requires-3 : tie.Need-put-decimal-requires-3
-put-decimal-requires-3 c κs =
-    omega (arith, zero-long)
+put-decimal-requires-3 c κs = omega (arith, zero-long)
 
 put-count-requires : tie.Need-put-count-requires
 put-count-requires c κs =
@@ -107,8 +104,7 @@ enum-known-answer-3 : tie.Need-enum-known-answer-3
 enum-known-answer-3 c = search needs
 
 put-decimal-requires-4 : tie.Need-put-decimal-requires-4
-put-decimal-requires-4 c κs =
-    omega (arith, zero-long)
+put-decimal-requires-4 c κs = omega (arith, zero-long)
 
 put-count-requires-2 : tie.Need-put-count-requires-2
 put-count-requires-2 c κs =
@@ -161,8 +157,7 @@ enum-known-answer-4 : tie.Need-enum-known-answer-4
 enum-known-answer-4 c = search needs
 
 put-decimal-requires-5 : tie.Need-put-decimal-requires-5
-put-decimal-requires-5 c κs =
-    omega (arith, zero-long)
+put-decimal-requires-5 c κs = omega (arith, zero-long)
 
 put-field-requires-2 : tie.Need-put-field-requires-2
 put-field-requires-2 c κs =
@@ -190,8 +185,7 @@ enum-known-answer-5 : tie.Need-enum-known-answer-5
 enum-known-answer-5 c = search needs
 
 put-decimal-requires-6 : tie.Need-put-decimal-requires-6
-put-decimal-requires-6 c κs =
-    omega (arith, zero-long)
+put-decimal-requires-6 c κs = omega (arith, zero-long)
 
 put-count-requires-4 : tie.Need-put-count-requires-4
 put-count-requires-4 c κs =
