@@ -164,13 +164,23 @@ fn each_limit_has_its_words_and_its_line() {
     assert_eq!(with(4, SHEET[3]), "");
 }
 
+/// Accruals of a sheet that is within limits but for them.
+fn with_steps(count: usize, steps: &str) -> String {
+    let sheet = format!("pool 1 {count} 1 0 7\ncut 0\ncut 1\nhazard 1\ncoupon 1 x 2\n");
+    explained(&format!("{sheet}issue 7\n{steps}\nopen\n"))
+}
+
 #[test]
 fn the_accruals_pass_their_sum_at_a_step() {
-    let text = "pool 1 12 1 0 7\ncut 0\ncut 1\nhazard 1\nstep 1 900000000 x 11\n\
-                step 1 900000000\ncoupon 1 x 2\nissue 7\nopen\n";
     let sum = "desk: line 9: open was refused 7 (accrual)\n\
-               desk: line 6: here the accruals reach 10800000000, above 10000000000\n";
-    assert_eq!(explained(text), sum);
+               desk: line 8: here the accruals reach 10800000000, above 10000000000\n";
+    let steps = "step 1 900000000 x 11\nstep 1 900000000";
+    assert_eq!(with_steps(12, steps), sum);
+    // Ten years are not too many.
+    let last = "desk: line 9: open was refused 7 (accrual)\n\
+                desk: line 8: the accrual of step 11, the last, is 0\n";
+    let steps = "step 1 1000000000 x 10\nstep 1 0";
+    assert_eq!(with_steps(11, steps), last);
 }
 
 /// One explanation for all calls on the same sheet, and not without end.
