@@ -9,12 +9,12 @@ use std::fs;
 use std::path::{Path, PathBuf};
 
 /// The one function that stores into a register.
-const STORE: &str = "register/src/lib.rt: store";
+const STORE: &str = "issuing/src/lib.rt: store";
 
 /// The two that call it, and how: `store` stands in the arm of `Accepted`.
 const CALLS: [(&str, &str); 2] = [
     (
-        "register/src/lib.rt: issue",
+        "issuing/src/lib.rt: issue",
         "let answer = judge_issue(register, number);
          match answer {
              WriteAnswer::Accepted => store(register, number, LIVE),
@@ -23,7 +23,7 @@ const CALLS: [(&str, &str); 2] = [
          answer",
     ),
     (
-        "register/src/lib.rt: withdraw",
+        "issuing/src/lib.rt: withdraw",
         "let answer = judge_withdraw(register, number);
          match answer {
              WriteAnswer::Accepted => store(register, number, CLEARED),
@@ -35,24 +35,24 @@ const CALLS: [(&str, &str); 2] = [
 
 /// The two that judge. They may only read.
 const JUDGES: [&str; 2] = [
-    "register/src/lib.rt: judge_issue",
-    "register/src/lib.rt: judge_withdraw",
+    "issuing/src/lib.rt: judge_issue",
+    "issuing/src/lib.rt: judge_withdraw",
 ];
 
 /// The others that may write a register, and the calls that they hand it to.
 const HANDS_ON: [(&str, &[&str]); 10] = [
     (
         "export/src/lib.rt: lavroudem_issue",
-        &["register::issue(register)"],
+        &["issuing::issue(register)"],
     ),
     (
         "export/src/lib.rt: lavroudem_withdraw",
-        &["register::withdraw(register)"],
+        &["issuing::withdraw(register)"],
     ),
-    ("orders/src/lib.rt: issue", &["register::issue(register)"]),
+    ("orders/src/lib.rt: issue", &["issuing::issue(register)"]),
     (
         "orders/src/lib.rt: withdraw",
-        &["register::withdraw(register)"],
+        &["issuing::withdraw(register)"],
     ),
     (
         "orders/src/lib.rt: act",

@@ -32,7 +32,8 @@ use Rattle.commands.specs.Commands.{lowFirst, operands, commands, decoded, comm
 use Rattle.entries.specs.Draft.{hasRoom, added}
 use Rattle.machine.specs.Rooms.{openInRooms, backInRooms, valueInRooms, ratioInRooms, forwardInRow, countSaid, distributionInRow}
 use Rattle.machine.specs.Transitions.{transitionOf}
-use Rattle.render.specs.Lines.{word, deckWord, fields, answerText, line, orderLine, deckLine}
+use Rattle.words.specs.Words.{word}
+use Rattle.render.specs.Lines.{deckWord, fields, answerText, line, orderLine, deckLine}
 use Rattle.execution.specs.Effects.{entryEffect, orderEffect, effectOf}
 use Rattle.interpreter.specs.ListingFrom.{listingFrom}
 use Rattle.interpreter.specs.RegisterFrom.{registerFrom}

@@ -44,7 +44,7 @@ pub extern "C" fn lavroudem_issue(register: &mut [u8], number: u8) -> u8
     ensures said { λ r. ⌜ r ≡ saidBy (issueAnswer (now (register .entry)) number) .number ⌝ }
     ensures leaves { λ _. ⌜ now (register .exit) ≡ issueLeaves (now (register .entry)) number ⌝ }
 {
-    register::number_of(register::issue(register, number))
+    register::number_of(issuing::issue(register, number))
 }
 
 // Ends a live number for good.
@@ -53,7 +53,7 @@ pub extern "C" fn lavroudem_withdraw(register: &mut [u8], number: u8) -> u8
     ensures said { λ r. ⌜ r ≡ saidBy (withdrawAnswer (now (register .entry)) number) .number ⌝ }
     ensures leaves { λ _. ⌜ now (register .exit) ≡ withdrawLeaves (now (register .entry)) number ⌝ }
 {
-    register::number_of(register::withdraw(register, number))
+    register::number_of(issuing::withdraw(register, number))
 }
 
 // Starts a walk at the last step, with both rows zero.

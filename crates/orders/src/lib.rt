@@ -29,7 +29,7 @@ fn issue(walk: Walk, register: &mut [u8], number: u8) -> Response
     ensures says { λ r. ⌜ answerSaid (r .answer) ≡ saidBy (issueAnswer (now (register .entry)) number) ⌝ }
     ensures leaves { λ r. ⌜ now (register .exit) ≡ issueLeaves (now (register .entry)) number ⌝ }
 {
-    let said = register::issue(register, number);
+    let said = issuing::issue(register, number);
     Response {
         answer: answers::of_register(said),
         walk,
@@ -42,7 +42,7 @@ fn withdraw(walk: Walk, register: &mut [u8], number: u8) -> Response
     ensures says { λ r. ⌜ answerSaid (r .answer) ≡ saidBy (withdrawAnswer (now (register .entry)) number) ⌝ }
     ensures leaves { λ r. ⌜ now (register .exit) ≡ withdrawLeaves (now (register .entry)) number ⌝ }
 {
-    let said = register::withdraw(register, number);
+    let said = issuing::withdraw(register, number);
     Response {
         answer: answers::of_register(said),
         walk,

@@ -17,7 +17,8 @@ use Rattle.commands.specs.declared.Order.the-variants.{Issue, Withdraw, Open, B
 use Rattle.answers.specs.declared.OrderAnswer.{OrderAnswer}
 use Rattle.answers.specs.declared.OrderAnswer.the-variants.{Refused, Done, Position, Worth, Ratio, Probability}
 use Rattle.answers.specs.OrderAnswers.{answerSaid}
-use Rattle.render.specs.Lines.{word, width}
+use Rattle.render.specs.Lines.{width}
+use Rattle.words.specs.Words.{word}
 
 -- text of at most so many bytes was written
 pub record Put (before : List ℕ) (at : ℕ) (text after : List ℕ) (end most : ℕ) : Type 0 where

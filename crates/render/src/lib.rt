@@ -3,31 +3,9 @@ ghost use Prim.Native.Nat.{_+_, _≤_};
 ghost use lib.ListN.{length};
 ghost use Rattle.lines.specs.Text.{Wrote};
 ghost use Rattle.answers.specs.OrderAnswers.{answerSaid};
-ghost use Rattle.render.specs.Lines.{word, answerText, orderLine, deckLine, width};
+ghost use Rattle.render.specs.Lines.{answerText, orderLine, deckLine, width};
 use answers::OrderAnswer;
 use commands::Order;
-
-// The word of an order, with its space.
-fn put_word(out: &mut [u8], at: usize, order: Order) -> usize
-    requires { ⌜ at + 9 ≤ length (now out) ⌝ }
-    ensures { λ r. ⌜ Wrote (now (out .entry)) at (word order) (now (out .exit)) r ⌝ }
-{
-    match order {
-        Order::Issue(_) => lines::put_bytes(out, at, b"issue "),
-        Order::Withdraw(_) => lines::put_bytes(out, at, b"withdraw "),
-        Order::Open => lines::put_bytes(out, at, b"open "),
-        Order::Back(_) => lines::put_bytes(out, at, b"back "),
-        Order::Value {
-            tranche: _,
-            count: _,
-        } => lines::put_bytes(out, at, b"value "),
-        Order::Delta {
-            tranche: _,
-            count: _,
-        } => lines::put_bytes(out, at, b"delta "),
-        Order::Forward { step: _, count: _ } => lines::put_bytes(out, at, b"forward "),
-    }
-}
 
 // A refusal, or 0 and the answer.
 fn put_answer(out: &mut [u8], at: usize, answer: OrderAnswer) -> usize
@@ -69,7 +47,7 @@ pub fn put_line(out: &mut [u8], at: usize, order: Order, answer: OrderAnswer) ->
     ensures writes { λ r. ⌜ Wrote (now (out .entry)) at (orderLine order (answerSaid answer)) (now (out .exit)) r ⌝ }
     ensures short { λ r. ⌜ r ≤ at + 10 + width (answerSaid answer) ⌝ }
 {
-    let b = put_word(out, at, order);
+    let b = words::put_word(out, at, order);
     let c = put_answer(out, b, answer);
     lines::put_end(out, c)
 }

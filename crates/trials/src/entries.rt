@@ -8,8 +8,8 @@ use trial::words;
 fn both(place: usize, value: u64, length: usize, unissued: u64, live: u64) {
     let mut first = lent::register(unissued);
     let mut second = lent::register(live);
-    let issued = register::issue(lent::bytes_mut(&mut first, length), 7);
-    let withdrawn = register::withdraw(lent::bytes_mut(&mut second, length), 7);
+    let issued = issuing::issue(lent::bytes_mut(&mut first, length), 7);
+    let withdrawn = issuing::withdraw(lent::bytes_mut(&mut second, length), 7);
     words::of(place);
     print::count(value);
     print::answer(b" issue", register::number_of(issued));

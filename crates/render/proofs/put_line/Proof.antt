@@ -1,7 +1,8 @@
 -- `render::put_line` meets its contract.
 use native.Mathlib.Omega.{arith}
 use lib.Dec.{lit≤}
-use Rattle.render.specs.Lines.{line, word, orderLine}
+use Rattle.words.specs.Words.{word}
+use Rattle.render.specs.Lines.{line, orderLine}
 use Rattle.render.proofs.Puts.{put, both, word-long, width-most, Put}
 use borrow.Author.Needs.{needs}
 use Rattle.render.proofs.put_line.Statement.{statement}

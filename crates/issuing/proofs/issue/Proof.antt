@@ -1,12 +1,12 @@
--- `register::issue` meets its contract: where the judgement is Accepted by what `store` left, else nothing was stored.
+-- `issuing::issue` meets its contract: where the judgement is Accepted by what `store` left, else nothing was stored.
 use mathlib.Core.Path.{_≡_, sym, _∙_, ap}
 use native.Mathlib.Omega.{arith}
 use borrow.Author.Needs.{needs}
 use lib.ListN.{set}
 use Rattle.register.specs.Register.{issue, numberOf}
 use Rattle.register.proofs.Rules.{left, meets, kept, of-size}
-use Rattle.register.proofs.issue.Statement.{statement}
-use Rattle.register.proofs.issue.Tie as tie
+use Rattle.issuing.proofs.issue.Statement.{statement}
+use Rattle.issuing.proofs.issue.Tie as tie
 
 -- the places: the start, seen from the judgement; the judgement, seen where it is Accepted; that place, seen where the byte is stored
 abbrev start : tie.After-judge-issue → tie.Start

@@ -1,8 +1,8 @@
--- `register::store` meets its contract.
+-- `issuing::store` meets its contract.
 use mathlib.Core.Path.{refl}
 use borrow.Author.Needs.{needs}
-use Rattle.register.proofs.store.Statement.{statement}
-use Rattle.register.proofs.store.Tie as tie
+use Rattle.issuing.proofs.store.Statement.{statement}
+use Rattle.issuing.proofs.store.Tie as tie
 
 slice-write-register : tie.Need-slice-write-register
 slice-write-register c = search needs

@@ -1,10 +1,10 @@
--- `render::put_word` meets its contract.
+-- `words::put_word` meets its contract.
 use mathlib.Core.Path.{sym, ap}
 use Rattle.lines.proofs.Laws.{wrote-text}
-use Rattle.render.specs.Lines.{word}
+use Rattle.words.specs.Words.{word}
 use borrow.Author.Needs.{needs}
-use Rattle.render.proofs.put_word.Statement.{statement}
-use Rattle.render.proofs.put_word.Tie as tie
+use Rattle.words.proofs.put_word.Statement.{statement}
+use Rattle.words.proofs.put_word.Tie as tie
 
 enum-told : tie.Need-enum-told
 enum-told c = search needs

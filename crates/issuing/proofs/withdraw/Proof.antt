@@ -1,18 +1,18 @@
--- `register::withdraw` meets its contract: where the judgement is Accepted by what `store` left, else nothing was stored.
+-- `issuing::withdraw` meets its contract: where the judgement is Accepted by what `store` left, else nothing was stored.
 use mathlib.Core.Path.{_≡_, sym, _∙_, ap}
 use mathlib.Core.List.{List}
 use Prim.Native.Nat.{ℕ}
 use native.Mathlib.Omega.{arith}
 use borrow.Author.Needs.{needs}
 use lib.ListN.{set}
 use Rattle.register.specs.declared.answers.WriteAnswer.{WriteAnswer}
 use Rattle.register.specs.Register.{withdraw, answerOf, leavesOf, numberOf}
 use Rattle.register.specs.Rules.{WithdrawEffect}
 use Rattle.register.specs.Events.{Lasts}
 use Rattle.register.proofs.Rules.{left, Meets, meets, kept, of-size}
 use Rattle.register.proofs.Lasting.{lasts}
-use Rattle.register.proofs.withdraw.Statement.{statement}
-use Rattle.register.proofs.withdraw.Tie as tie
+use Rattle.issuing.proofs.withdraw.Statement.{statement}
+use Rattle.issuing.proofs.withdraw.Tie as tie
 
 -- what the contract says: that of both writes, and that an accepted withdrawal lasts
 Promises : List ℕ → ℕ → WriteAnswer → List ℕ → Type 0
