@@ -12,28 +12,11 @@ use lib.Seq.{sets-eq}
 use Rattle.lines.specs.Text.{Wrote}
 use Rattle.machine.specs.Machine.{machineOn}
 use Rattle.render.specs.Lines.{deckLine}
-use Rattle.interpreter.specs.ListingFrom.{listingFrom}
-use Rattle.interpreter.specs.RegisterFrom.{registerFrom}
+use Rattle.listings.specs.ListingFrom.{listingFrom}
+use Rattle.listings.specs.RegisterFrom.{registerFrom}
 use Rattle.deck.specs.declared.Ran.the-variants.{Printed, NoRoom}
-use Rattle.deck.specs.Listing.{listingOn, registerAfter, room, Printout, printout, printingOn, registerLeft}
-
--- a deck that is too long, and one that is not
-module _ (register deck : List ℕ) where
-  pub oversized : 65536 < length deck → deckLine 20 65536 ≡ listingOn register deck
-  unfolding listingOn
-  oversized h = sym (rw (lt-ltb 65536 (length deck) h, listingOn))
-
-  pub oversized-left : 65536 < length deck → register ≡ registerAfter register deck
-  unfolding registerAfter
-  oversized-left h = sym (rw (lt-ltb 65536 (length deck) h, registerAfter))
-
-  pub sized : length deck ≤ 65536 → listingFrom (length deck) deck 0 (machineOn register) ≡ listingOn register deck
-  unfolding listingOn
-  sized h = sym (rw (le-ltb 65536 (length deck) h, listingOn))
-
-  pub sized-left : length deck ≤ 65536 → registerFrom (length deck) deck 0 (machineOn register) ≡ registerAfter register deck
-  unfolding registerAfter
-  sized-left h = sym (rw (le-ltb 65536 (length deck) h, registerAfter))
+use Rattle.listings.specs.Listing.{listingOn, registerAfter}
+use Rattle.deck.specs.Printing.{room, Printout, printout, printingOn, registerLeft}
 
 -- the room of a deck
 pub room-least : (bytes : ℕ) → 96 ≤ room bytes

@@ -1,6 +1,6 @@
 // A whole deck: its commands are run one after the other, and what they print is written.
 ghost use mathlib.Core.Path.{_≡_};
-ghost use Rattle.deck.specs.Listing.{room as roomOf, printout, printing, printingOn, registerLeft};
+ghost use Rattle.deck.specs.Printing.{room as roomOf, printout, printing, printingOn, registerLeft};
 use entries::NUMBERS;
 use sheet::COUNTS_MOST;
 use sheet::ROW_MOST;

@@ -34,10 +34,10 @@ use Rattle.machine.specs.Rooms.{openInRooms, backInRooms, valueInRooms, ratioIn
 use Rattle.machine.specs.Transitions.{transitionOf}
 use Rattle.words.specs.Words.{word}
 use Rattle.render.specs.Lines.{deckWord, fields, answerText, line, orderLine, deckLine}
-use Rattle.execution.specs.Effects.{entryEffect, orderEffect, effectOf}
-use Rattle.interpreter.specs.ListingFrom.{listingFrom}
-use Rattle.interpreter.specs.RegisterFrom.{registerFrom}
-use Rattle.deck.specs.Listing.{listingOn, registerAfter}
+use Rattle.listings.specs.Effects.{entryEffect, orderEffect, effectOf}
+use Rattle.listings.specs.ListingFrom.{listingFrom}
+use Rattle.listings.specs.RegisterFrom.{registerFrom}
+use Rattle.listings.specs.Listing.{listingOn, registerAfter}
 use Rattle.decks.specs.Limits.{times}
 
 -- what makes a line of an answer

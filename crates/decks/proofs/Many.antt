@@ -22,12 +22,12 @@ use Rattle.entries.specs.Draft.{hasRoom, added}
 use Rattle.machine.specs.Machine.{Machine, freshMachine}
 use Rattle.machine.specs.Transitions.{transitionOf}
 use Rattle.render.specs.Lines.{orderLine, deckLine}
-use Rattle.execution.specs.Effects.{stop, goOn, withDraft, entryEffect, orderEffect, effectOf}
+use Rattle.listings.specs.Effects.{stop, goOn, withDraft, entryEffect, orderEffect, effectOf}
 use Rattle.execution.proofs.EffectLaws.{full-effect}
-use Rattle.interpreter.specs.ListingFrom.{listingFrom}
-use Rattle.interpreter.proofs.LoopInvariant.{past, on, last}
-use Rattle.deck.specs.Listing.{listing}
-use Rattle.deck.proofs.Printing as Printing
+use Rattle.listings.specs.ListingFrom.{listingFrom}
+use Rattle.listings.proofs.Laws.{past, on, last}
+use Rattle.listings.specs.Listing.{listing}
+use Rattle.listings.proofs.Laws as Laws
 use Rattle.decks.specs.Limits.{times, step, issueSeven, issueLine, tooManySteps, unknownFirst, oversized}
 use Rattle.decks.proofs.Computing.{printed}
 
@@ -165,7 +165,7 @@ module _ (n : ℕ) (few : n ≤ 3650) (rest : List ℕ) where
   from-there : length rest ≤ 9 → listing deck ≡ listingFrom (8 * n + length rest) deck (9 * n) (full .state)
   from-there h =
       let commandsLeft : length deck ≡ n + (8 * n + length rest) = omega (arith, long) in
-      sym (Printing.sized _ deck (omega (arith, long)))
+      sym (Laws.sized _ deck (omega (arith, long)))
       ∙ ap (λ (k : ℕ). listingFrom k deck 0 freshMachine) commandsLeft
       ∙ full .prints
       ∙ ap (λ (k : ℕ). listingFrom (8 * n + length rest) deck k (full .state)) (zero-add (9 * n))
@@ -225,7 +225,7 @@ unknown s = refl
 
 pub bytes : (s : List ℕ) → length s ≤ 65535 → listing (0 ∷ s) ≡ unknownFirst
 bytes s h =
-    sym (Printing.sized _ (0 ∷ s) (omega arith)) ∙ last (0 ∷ s) 0 freshMachine (length s) (deckLine 18 0) (omega arith) (unknown s) ∙ unknown-line
+    sym (Laws.sized _ (0 ∷ s) (omega arith)) ∙ last (0 ∷ s) 0 freshMachine (length s) (deckLine 18 0) (omega arith) (unknown s) ∙ unknown-line
 
 pub one-byte-more : (s : List ℕ) → 65536 ≤ length s → listing (0 ∷ s) ≡ oversized
-one-byte-more s h = sym (Printing.oversized _ (0 ∷ s) (omega arith)) ∙ oversized-line
+one-byte-more s h = sym (Laws.oversized _ (0 ∷ s) (omega arith)) ∙ oversized-line

@@ -1,7 +1,7 @@
 -- What decks print, by computation; of the longest by laws.
 use mathlib.Core.Path.{refl, sym}
 use native.Mathlib.Omega.{arith}
-use Rattle.deck.proofs.Printing as Printing
+use Rattle.listings.proofs.Laws as Laws
 use Rattle.decks.specs.Registers.{RegistersLeft}
 use Rattle.decks.specs.Printed.{CallListings, OpenListings, RatioListings, FullListings, LongListings, DeckListings}
 use Rattle.decks.proofs.Computing.{computed}
@@ -86,5 +86,5 @@ registers =
       stopped-again = refl;
       short = refl;
       short-left = refl;
-      oversized = λ register deck h. sym (Printing.oversized-left register deck h);
+      oversized = λ register deck h. sym (Laws.oversized-left register deck h);
     }

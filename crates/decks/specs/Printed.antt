@@ -3,7 +3,7 @@ use Prim.Native.Nat.{ℕ, _≤_}
 use mathlib.Core.Path.{_≡_}
 use mathlib.Core.List.{List, [], _∷_, _++_}
 use lib.ListN.{length}
-use Rattle.deck.specs.Listing.{listing}
+use Rattle.listings.specs.Listing.{listing}
 use Rattle.decks.specs.Calls.{workedDeck, workedListing, unevenSheet, acceptedCalls, acceptedListing, refusedCalls, refusedListing}
 use Rattle.decks.specs.Calls.{noPoolDeck, noPoolListing, mixedDeck, mixedListing, oneStepDeck, oneStepListing}
 use Rattle.decks.specs.Limits.{none, one, belowMillion, million, tenMillion, overTenMillion, billion, overBillion, single, coupon}

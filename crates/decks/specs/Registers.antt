@@ -4,7 +4,7 @@ use mathlib.Core.Path.{_≡_}
 use mathlib.Core.List.{List, [], _∷_, _++_}
 use lib.ListN.{length, replicate, set}
 use Rattle.register.specs.Events.{blankRegister}
-use Rattle.deck.specs.Listing.{listingOn, registerAfter}
+use Rattle.listings.specs.Listing.{listingOn, registerAfter}
 use Rattle.decks.specs.Calls.{workedDeck}
 use Rattle.decks.specs.Limits.{issueSeven}
 

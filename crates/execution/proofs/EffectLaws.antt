@@ -22,7 +22,7 @@ use Rattle.machine.specs.Machine.{Machine, machineOf}
 use Rattle.machine.specs.Transitions.{Transition, transitionBy, transitionOf}
 use Rattle.render.specs.Lines.{orderLine, deckLine, width}
 use Rattle.execution.specs.declared.Progress.{Progress}
-use Rattle.execution.specs.Effects.{Effect, stop, goOn, entryEffect, orderEffect, effectOf}
+use Rattle.listings.specs.Effects.{Effect, stop, goOn, entryEffect, orderEffect, effectOf}
 use Rattle.execution.specs.Executions.{LastLine, effectBy, machineAt, Execution}
 use Rattle.execution.proofs.LineWidths.{line-short}
 
@@ -94,21 +94,3 @@ order-executed o from layout next end a m t acts wrote short size =
       onward = (λ z. omega (arith, order-some o));
       short = (λ z. omega (arith, line-short o m .short));
     }
-
--- the effect of a command that was read
-module _ {c : Command} (at : ℕ) (m : Machine) where
-  pub unknown-effect : c ≡ Unknown → effectOf c at m ≡ stop (deckLine 18 at)
-  unfolding effectOf
-  unknown-effect e = ap (λ (k : Command). effectOf k at m) e
-
-  pub cut-effect : c ≡ CutShort → effectOf c at m ≡ stop (deckLine 19 at)
-  unfolding effectOf
-  cut-effect e = ap (λ (k : Command). effectOf k at m) e
-
-  pub enter-effect : {y : Entry} → c ≡ Enter y → effectOf c at m ≡ entryEffect y at m
-  unfolding effectOf
-  enter-effect e = ap (λ (k : Command). effectOf k at m) e
-
-  pub act-effect : {o : Order} → c ≡ Act o → effectOf c at m ≡ orderEffect o at m
-  unfolding effectOf
-  act-effect e = ap (λ (k : Command). effectOf k at m) e

@@ -9,7 +9,7 @@ use Rattle.entries.specs.Layouts.{emptyLayout}
 use Rattle.machine.specs.Machine.{Machine, machineIn}
 use Rattle.render.specs.Lines.{deckLine}
 use Rattle.execution.specs.declared.Progress.{Progress}
-use Rattle.execution.specs.Effects.{Effect, stop, goOn}
+use Rattle.listings.specs.Effects.{Effect, stop, goOn}
 
 -- A run starts with an empty layout and a fresh walk, at the first byte, and has printed nothing.
 abbrev pub startProgress : Progress

@@ -7,7 +7,7 @@ ghost use lib.ListN.{length};
 ghost use Rattle.commands.specs.Commands.{commandAt};
 ghost use Rattle.entries.specs.Layouts.{LayoutLimits};
 ghost use Rattle.machine.specs.Machine.{RoomLengths};
-ghost use Rattle.execution.specs.Effects.{entryEffect, orderEffect, effectOf};
+ghost use Rattle.listings.specs.Effects.{entryEffect, orderEffect, effectOf};
 ghost use Rattle.execution.specs.Executions.{startProgress, machineAt, LastLine, Execution};
 use commands::Command;
 use commands::Entry;

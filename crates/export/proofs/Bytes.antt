@@ -6,7 +6,7 @@ use lib.ListN.{length}
 use native.Mathlib.Omega.{arith}
 use Rattle.deck.specs.declared.Ran.{Ran}
 use Rattle.deck.specs.declared.Ran.the-variants.{Printed, NoRoom}
-use Rattle.deck.specs.Listing.{room, printout, printingOn}
+use Rattle.deck.specs.Printing.{room, printout, printingOn}
 use Rattle.deck.proofs.Printing.{printed-within, no-room-only}
 use Rattle.export.specs.Bytes.{bytesIn}
 

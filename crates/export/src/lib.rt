@@ -4,7 +4,7 @@ ghost use mathlib.Core.Path.{_≡_};
 ghost use Prim.Native.Nat.{_<_};
 ghost use lib.ListN.{length};
 ghost use Rattle.deck.specs.declared.Ran.the-variants.{NoRoom};
-ghost use Rattle.deck.specs.Listing.{room, printing, printingOn, registerLeft};
+ghost use Rattle.deck.specs.Printing.{room, printing, printingOn, registerLeft};
 ghost use Rattle.register.specs.Register.{issueAnswer, issueLeaves, withdrawAnswer, withdrawLeaves};
 ghost use Rattle.sheet.specs.Spans.{broughtIn};
 ghost use Rattle.walk.specs.Answers.{saidOf, saidBy};

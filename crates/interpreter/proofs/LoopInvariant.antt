@@ -15,40 +15,11 @@ use Rattle.entries.specs.Draft.{emptyDraft}
 use Rattle.entries.specs.Layouts.{emptyLayout, LayoutLimits}
 use Rattle.machine.specs.Machine.{Machine, machineOf}
 use Rattle.execution.specs.declared.Progress.{Progress}
-use Rattle.execution.specs.Effects.{stop, goOn, effectOf}
+use Rattle.listings.specs.Effects.{stop, goOn, effectOf}
 use Rattle.execution.specs.Executions.{startProgress, machineAt, effectBy, Execution}
-use Rattle.interpreter.specs.ListingFrom.{listingFrom}
-use Rattle.interpreter.specs.RegisterFrom.{registerFrom}
-
-module _ (deck : List ℕ) (at : ℕ) (m : Machine) where
-  pub past : (commands : ℕ) → length deck ≤ at → listingFrom commands deck at m ≡ []
-  unfolding listingFrom
-  past zero h = refl
-  past (suc n) h = rw (le-ltb at (length deck) h, listingFrom)
-
-  pub left-past : (commands : ℕ) → length deck ≤ at → registerFrom commands deck at m ≡ m .register
-  unfolding registerFrom
-  left-past zero h = refl
-  left-past (suc n) h = rw (le-ltb at (length deck) h, registerFrom)
-
-  pub on : (n : ℕ) (text : List ℕ) (next : ℕ) (t : Machine) → at < length deck → effectOf (commandAt deck at) at m ≡ goOn text next t →
-      listingFrom (suc n) deck at m ≡ text ++ listingFrom n deck next t
-  unfolding listingFrom
-  on n text next t h e = rw (lt-ltb at (length deck) h, listingFrom) (rw e)
-
-  pub left-on : (n : ℕ) (text : List ℕ) (next : ℕ) (t : Machine) → at < length deck → effectOf (commandAt deck at) at m ≡ goOn text next t →
-      registerFrom (suc n) deck at m ≡ registerFrom n deck next t
-  unfolding registerFrom
-  left-on n text next t h e = rw (lt-ltb at (length deck) h, registerFrom) (rw e)
-
-  pub last : (n : ℕ) (text : List ℕ) → at < length deck → effectOf (commandAt deck at) at m ≡ stop text → listingFrom (suc n) deck at m ≡ text
-  unfolding listingFrom
-  last n text h e = rw (lt-ltb at (length deck) h, listingFrom) (rw e)
-
-  pub left-last : (n : ℕ) (text : List ℕ) → at < length deck → effectOf (commandAt deck at) at m ≡ stop text →
-      registerFrom (suc n) deck at m ≡ m .register
-  unfolding registerFrom
-  left-last n text h e = rw (lt-ltb at (length deck) h, registerFrom) (rw e)
+use Rattle.listings.specs.ListingFrom.{listingFrom}
+use Rattle.listings.proofs.Laws.{past, left-past, on, left-on, last, left-last}
+use Rattle.listings.specs.RegisterFrom.{registerFrom}
 
 -- Where the loop stands: all that is to be printed is what stands in out, up to its end, and what the rest of the deck prints; the register that is
 -- to be left is what the rest leaves.

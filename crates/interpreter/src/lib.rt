@@ -6,8 +6,8 @@ ghost use Rattle.lines.specs.Text.{Wrote};
 ghost use Rattle.walk.specs.Answers.{fresh};
 ghost use Rattle.entries.specs.Draft.{emptyDraft};
 ghost use Rattle.machine.specs.Machine.{machineOf, RoomLengths};
-ghost use Rattle.interpreter.specs.ListingFrom.{listingFrom};
-ghost use Rattle.interpreter.specs.RegisterFrom.{registerFrom};
+ghost use Rattle.listings.specs.ListingFrom.{listingFrom};
+ghost use Rattle.listings.specs.RegisterFrom.{registerFrom};
 
 // Interprets a deck from its start, with no entries and a fresh walk, and answers how many bytes it printed.
 pub fn interpret(

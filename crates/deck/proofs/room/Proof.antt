@@ -1,6 +1,6 @@
 -- `deck::room` meets its contract.
 use native.Mathlib.Omega.{arith}
-use Rattle.deck.specs.Listing.{room}
+use Rattle.deck.specs.Printing.{room}
 use borrow.Author.Needs.{needs}
 use Rattle.deck.proofs.room.Statement.{statement}
 use Rattle.deck.proofs.room.Tie as tie

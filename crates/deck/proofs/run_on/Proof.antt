@@ -2,9 +2,10 @@
 use Prim.Native.Nat.{_≤_, _<_}
 use mathlib.Core.Path.{_∙_}
 use native.Mathlib.Omega.{arith}
-use Rattle.deck.proofs.Printing.{oversized, oversized-left, sized, sized-left, room-least, room-sized, no-room, no-room-left, left, printed}
+use Rattle.listings.proofs.Laws.{oversized, oversized-left, sized, sized-left}
+use Rattle.deck.proofs.Printing.{room-least, room-sized, no-room, no-room-left, left, printed}
 use lib.ListN.{length}
-use Rattle.deck.specs.Listing.{room as roomOf}
+use Rattle.deck.specs.Printing.{room as roomOf}
 use borrow.Author.Needs.{needs}
 use Rattle.deck.proofs.run_on.Statement.{statement}
 use Rattle.deck.proofs.run_on.Tie as tie

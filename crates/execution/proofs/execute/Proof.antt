@@ -9,11 +9,8 @@ use Rattle.execution.proofs.EffectLaws.{
   execution-as,
   refusal-executed,
   limits-stay,
-  unknown-effect,
-  cut-effect,
-  enter-effect,
-  act-effect,
 }
+use Rattle.listings.proofs.Laws.{unknown-effect, cut-effect, enter-effect, act-effect}
 use borrow.Author.Needs.{needs}
 use Rattle.execution.proofs.execute.Statement.{statement}
 use Rattle.execution.proofs.execute.Tie as tie

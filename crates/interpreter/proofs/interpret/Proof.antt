@@ -10,8 +10,8 @@ use Rattle.entries.specs.Draft.{emptyDraft}
 use Rattle.entries.specs.Layouts.{LayoutLimits}
 use Rattle.machine.specs.Machine.{machineOf, RoomLengths}
 use Rattle.execution.specs.Executions.{machineAt}
-use Rattle.interpreter.specs.ListingFrom.{listingFrom}
-use Rattle.interpreter.specs.RegisterFrom.{registerFrom}
+use Rattle.listings.specs.ListingFrom.{listingFrom}
+use Rattle.listings.specs.RegisterFrom.{registerFrom}
 use Rattle.interpreter.proofs.LoopInvariant.{Invariant, start-limits, holds-at-start, line-fits, holds-on, finished-last, finished-all}
 use Rattle.interpreter.proofs.interpret.Statement.{statement}
 use Rattle.interpreter.proofs.interpret.Tie as tie

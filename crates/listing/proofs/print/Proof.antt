@@ -5,7 +5,7 @@ use native.Mathlib.Omega.{arith}
 use lib.ListN.{length}
 use lib.Seq.{length-take-le}
 use Rattle.deck.specs.declared.Ran.{Ran}
-use Rattle.deck.specs.Listing.{printout}
+use Rattle.deck.specs.Printing.{printout}
 use Rattle.deck.proofs.Printing.{printed-within}
 use borrow.Author.Needs.{needs}
 use Rattle.listing.proofs.print.Statement.{statement}

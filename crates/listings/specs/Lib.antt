@@ -1,2 +1,4 @@
+pub mod Effects
 pub mod ListingFrom
 pub mod RegisterFrom
+pub mod Listing
