@@ -27,9 +27,21 @@ static void fail(const char *fault)
 /* 256 for what is no number of a sheet. */
 static unsigned long number_in(const char *text)
 {
-    char *end;
-    const unsigned long number = strtoul(text, &end, 10);
-    return *text == '\0' || *end != '\0' || number > 255 ? 256 : number;
+    if (strspn(text, "0123456789") != strlen(text) || *text == '\0' || strlen(text) > 3) {
+        return 256;
+    }
+    const unsigned long number = strtoul(text, NULL, 10);
+    return number > 255 ? 256 : number;
+}
+
+/* The register would be given a closed descriptor, and be printed into. */
+static void check_descriptors(void)
+{
+    for (int descriptor = 0; descriptor <= 2; descriptor++) {
+        if (fcntl(descriptor, F_GETFD) < 0) {
+            exit(EXIT_FAILURE);
+        }
+    }
 }
 
 /* Locked until the program ends. */
@@ -40,7 +52,7 @@ static int open_register(const char *path, uint8_t *bytes)
         fail(strerror(errno));
     }
     if (flock(file, LOCK_EX | LOCK_NB) != 0) {
-        fail("the register is in use");
+        fail(errno == EWOULDBLOCK ? "the register is in use" : strerror(errno));
     }
     struct stat found;
     if (fstat(file, &found) != 0 || found.st_size != LAVROUDEM_REGISTER_LENGTH
@@ -57,6 +69,7 @@ static int open_register(const char *path, uint8_t *bytes)
 
 int main(int argc, char **argv)
 {
+    check_descriptors();
     const unsigned long number = argc == 4 ? number_in(argv[3]) : 256;
     const bool issue = argc == 4 && strcmp(argv[2], "issue") == 0;
     const bool withdraw = argc == 4 && strcmp(argv[2], "withdraw") == 0;

@@ -369,7 +369,11 @@ pub fn told(name: &str, lines: &Lines, findings: &[Finding]) -> String {
         None => format!("{name}: byte {offset}"),
     };
     let mut text = String::new();
-    for finding in findings.iter().take(MOST_TOLD) {
+    // Why the deck stops is always told: it is the last finding.
+    let (shown, rest) = findings.split_at(findings.len().min(MOST_TOLD));
+    let (stop, rest): (Vec<&Finding>, Vec<&Finding>) =
+        rest.iter().partition(|finding| finding.word == "deck");
+    for finding in shown.iter().chain(stop) {
         text += &format!("{}: {}\n", place(finding.offset), verdict(finding));
         for cause in finding.causes.iter().take(MOST_TOLD) {
             text += &format!("{}: {}\n", place(cause.offset), cause.fault);
@@ -378,10 +382,10 @@ pub fn told(name: &str, lines: &Lines, findings: &[Finding]) -> String {
             text += &format!("{name}: and {} more\n", finding.causes.len() - MOST_TOLD);
         }
     }
-    let calls = findings.iter().skip(MOST_TOLD);
-    let more: usize = calls.map(|finding| 1 + finding.more_calls).sum();
-    if more > 0 {
-        text += &format!("{name}: and {more} more lines with a refusal\n");
+    match rest.iter().map(|finding| 1 + finding.more_calls).sum() {
+        0 => (),
+        1 => text += &format!("{name}: and 1 more line with a refusal\n"),
+        more => text += &format!("{name}: and {more} more lines with a refusal\n"),
     }
     text
 }

@@ -142,6 +142,10 @@ fn too_long(text: &[u8]) -> Mistake {
 
 /// The bytes of a line, and how often they come.
 fn assemble_line(line: &str) -> Result<(Vec<u8>, usize), String> {
+    // An editor would show two lines, of which a comment hides one.
+    if let Some(end) = line.chars().find(|c| matches!(c, '\r' | '\u{2028}' | '\u{2029}')) {
+        return Err(format!("{} within the line; a line ends in 0A", quote::word(&end.to_string())));
+    }
     let code = line.split('#').next().unwrap_or_default();
     let words: Vec<&str> = code.split_whitespace().collect();
     let (words, times) = without_repeat(&words)?;

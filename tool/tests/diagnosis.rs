@@ -453,3 +453,13 @@ fn every_stop_has_its_cause() {
     }
     assert!(met.iter().all(|&count| count > 0), "{met:?}");
 }
+
+/// However many calls are refused before it.
+#[test]
+fn a_stop_is_told_behind_many_refusals() {
+    let text = "open\npool 2 2 1 0 7\nopen\ncut 0\nopen\ncut 1\nopen\nhazard 1\nopen\nhazard 1 x 125\n";
+    let told = explained(text);
+    assert!(told.contains("line 10: the deck stops at byte 650"), "{told}");
+    let more = explained(&text.replace("hazard 1\nopen\n", "hazard 1\nopen\nstep 1 1\nopen\n"));
+    assert!(more.contains("and 1 more line with a refusal"), "{more}");
+}

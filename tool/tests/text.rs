@@ -353,3 +353,16 @@ fn words_are_cut_and_escaped_in_errors() {
     let shown = "line 1: no command `\\u{1b}[31mred\\u{202e}`; there are pool, ";
     assert!(escape.starts_with(shown), "{escape}");
 }
+
+/// What an editor shows as a line of its own is one, or a mistake: no command
+/// hides behind a comment.
+#[test]
+fn other_line_ends_are_told() {
+    for end in ["\r", "\u{2028}", "\u{2029}"] {
+        let text = format!("issue 7\nissue 7 # new{end}withdraw 7\n");
+        let mistake = assemble(&text).unwrap_err();
+        assert_eq!(mistake.line, 2);
+        assert!(mistake.reason.contains("within the line"), "{mistake}");
+    }
+    assert_eq!(assemble("issue 7\r\nopen\r\n"), assemble("issue 7\nopen\n"));
+}

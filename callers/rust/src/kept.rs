@@ -108,7 +108,8 @@ impl<S: RegisterStore> KeptRegister<S> {
     }
 
     /// The register, for the calls that only read it. It can't be written
-    /// while they have it.
+    /// while they have it. A copy of it is no register: it goes on saying what
+    /// was so when it was made.
     pub fn bytes(&self) -> Result<&[u8; REGISTER_LENGTH], KeptError> {
         if self.in_doubt {
             return Err(KeptError::InDoubt);

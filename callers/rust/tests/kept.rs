@@ -387,3 +387,56 @@ fn errors_say_what_to_do() {
         assert_eq!(error.to_string(), text);
     }
 }
+
+/// A file that is moved away, replaced or cut is told before any answer.
+#[test]
+fn a_file_that_is_not_found_again() {
+    let spoil: [fn(&Path); 3] = [
+        |path| fs::rename(path, path.with_extension("away")).unwrap(),
+        |path| {
+            let copy = path.with_extension("copy");
+            fs::copy(path, &copy).unwrap();
+            fs::rename(copy, path).unwrap();
+        },
+        |path| {
+            let file = fs::File::options().write(true).open(path).unwrap();
+            file.set_len(7).unwrap();
+        },
+    ];
+    for spoil in spoil {
+        let folder = Folder::new();
+        let path = folder.register();
+        let mut kept = KeptRegister::create(&path).unwrap();
+        kept.issue(7).unwrap();
+        spoil(&path);
+        assert!(matches!(kept.withdraw(7), Err(KeptError::Write(_))));
+        assert!(matches!(kept.bytes(), Err(KeptError::InDoubt)));
+    }
+}
+
+/// No bit of a register is set by any way, and none behind it written.
+#[test]
+fn a_register_file_only_loses_bits() {
+    let folder = Folder::new();
+    let path = folder.register();
+    drop(KeptRegister::create(&path).unwrap());
+    let mut file = RegisterFile::open(&path).unwrap();
+    file.write(7, 0x25).unwrap();
+    assert!(file.write(7, 0xA5).is_err());
+    assert!(file.write(256, 0).is_err());
+    assert_eq!(fs::read(&path).unwrap().len(), 256);
+}
+
+/// What no test can see without a power loss is read: a sync reaches the
+/// disk, and a new name too.
+#[test]
+fn the_file_is_forced_to_the_disk() {
+    let source = include_str!("../src/kept/file.rs");
+    let body = |name: &str| {
+        let start = source.find(name).unwrap();
+        &source[start..start + source[start..].find("\n    }\n").unwrap()]
+    };
+    assert!(body("fn sync(").contains("self.file.sync_data()?;"));
+    assert!(source.contains("written.and_then(|()| file.sync_all())"));
+    assert!(source.contains("forced.and_then(|()| folder_of(path)?.sync_all())"));
+}

@@ -30,7 +30,7 @@ stoppedAgain =
     105 ∷ 115 ∷ 115 ∷ 117 ∷ 101 ∷ 32 ∷ 49 ∷ 55 ∷ 10  -- issue 17
     ∷ 100 ∷ 101 ∷ 99 ∷ 107 ∷ 32 ∷ 49 ∷ 56 ∷ 32 ∷ 50 ∷ 10 ∷ []  -- deck 18 2
 
--- 7 as it was issued and withdrawn last; one byte more, and a register of another length (2).
+-- 7 as it was issued and withdrawn last; a stop behind an issue; a register of another length (2), and a deck of too many bytes.
 pub record RegistersLeft : Type 0 where
   pub worked : registerAfter blankRegister workedDeck ≡ set blankRegister 7 0x00
   pub again : listingOn (set blankRegister 7 0x00) workedDeck ≡ workedAgain

@@ -1,6 +1,7 @@
 //! Decks on a register that is kept in a file.
 
 use lavroudem::{KeptError, KeptRegister, MAX_DECK};
+use lavroudem_tool::quote::name;
 use std::env;
 use std::ffi::{OsStr, OsString};
 use std::fs::File;
@@ -10,7 +11,7 @@ use std::process::ExitCode;
 const USAGE: &str = "\
 usage: kept new REGISTER         makes a blank register
        kept run REGISTER DECK    runs a binary deck on a register and prints its listing
-A DECK - is standard input. Each accepted issue and withdraw is on the disk before its line is
+A DECK - is standard input; the descriptors 0 to 2 must be open. Each accepted issue and withdraw is on the disk before its line is
 printed. A register is never made by a run, and two users never have it at once.
 Exit status: 0 done, refused calls included; 1 the deck can't be read; 2 wrong usage; 5 output was
 lost, and the register written all the same; 7 the register is at fault.
@@ -42,7 +43,7 @@ fn new(register: &OsStr) -> Result<(), Fault> {
 
 /// The deck is read before the register is touched.
 fn run(register: &OsStr, deck: &OsStr) -> Result<(), Fault> {
-    let bytes = read(deck).map_err(|error| (format!("{}: {error}", deck.display()), 1))?;
+    let bytes = read(deck).map_err(|error| (format!("{}: {error}", name(&deck.to_string_lossy())), 1))?;
     let opened = KeptRegister::open(register);
     let done = opened.and_then(|mut kept| kept.run_deck(&bytes, &mut io::stdout().lock()));
     done.map_err(|error| match error {
@@ -64,5 +65,5 @@ fn read(deck: &OsStr) -> io::Result<Vec<u8>> {
 }
 
 fn at_fault(register: &OsStr, error: &KeptError) -> Fault {
-    (format!("{}: {error}", register.display()), 7)
+    (format!("{}: {error}", name(&register.to_string_lossy())), 7)
 }
