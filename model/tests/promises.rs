@@ -160,7 +160,7 @@ fn rested_on(page: &str, definitions: &Definitions, of_the_listing: bool) -> BTr
         .map(|citation| (citation.path.to_string(), citation.names[0].to_string()));
     counted
         .filter(|(file, _)| {
-            ["deck/", "returns/", "export/"].iter().any(|owner| file.starts_with(owner)) == of_the_listing
+            ["deck/", "listings/", "returns/", "export/"].iter().any(|owner| file.starts_with(owner)) == of_the_listing
         })
         .flat_map(|key| definitions.below(key))
         .collect()

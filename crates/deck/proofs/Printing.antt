@@ -16,6 +16,8 @@ use Rattle.listings.specs.ListingFrom.{listingFrom}
 use Rattle.listings.specs.RegisterFrom.{registerFrom}
 use Rattle.deck.specs.declared.Ran.the-variants.{Printed, NoRoom}
 use Rattle.listings.specs.Listing.{listingOn, registerAfter}
+use Rattle.listings.specs.Withdrawals.{KeepsWithdrawn}
+use Rattle.listings.proofs.Withdrawals.{deck-withdrawals}
 use Rattle.deck.specs.Printing.{room, Printout, printout, printingOn, registerLeft}
 
 -- the room of a deck
@@ -44,6 +46,15 @@ module _ (register deck out : List ℕ) where
   pub left : {after : List ℕ} → room (length deck) ≤ length out → after ≡ registerAfter register deck → after ≡ registerLeft register deck out
   unfolding registerLeft
   left fits is = is ∙ sym (rw (le-ltb (length out) (room (length deck)) fits, registerLeft))
+
+  -- either way a withdrawn number stays withdrawn
+  pub keeps : {after : List ℕ} → after ≡ registerLeft register deck out → KeepsWithdrawn register after
+  unfolding registerLeft
+  keeps is = rw is (go (ltb (length out) (room (length deck))))
+    where
+      go : (b : Bool) → KeepsWithdrawn register (elim b [ true ↦ register | false ↦ registerAfter register deck ])
+      go true = record { size = refl; withdrawn = λ x w. w; byte = λ x w. refl }
+      go false = deck-withdrawals .whole register deck
 
   pub printed : (after text : List ℕ) (r : ℕ) → room (length deck) ≤ length out → text ≡ listingOn register deck → Wrote out 0 text after r →
       r ≤ length out → printout (Printed r) after ≡ printingOn register deck out

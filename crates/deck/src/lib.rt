@@ -1,5 +1,6 @@
 // A whole deck: its commands are run one after the other, and what they print is written.
 ghost use mathlib.Core.Path.{_≡_};
+ghost use Rattle.listings.specs.Withdrawals.{KeepsWithdrawn};
 ghost use Rattle.deck.specs.Printing.{room as roomOf, printout, printing, printingOn, registerLeft};
 use entries::NUMBERS;
 use sheet::COUNTS_MOST;
@@ -28,6 +29,7 @@ pub fn room(bytes: usize) -> usize
 pub fn run_on(deck: &[u8], register: &mut [u8], out: &mut [u8]) -> Ran
     ensures prints { λ r. ⌜ printout r (now (out .exit)) ≡ printingOn (now (register .entry)) (now (deck .entry)) (now (out .entry)) ⌝ }
     ensures leaves { λ _. ⌜ now (register .exit) ≡ registerLeft (now (register .entry)) (now (deck .entry)) (now (out .entry)) ⌝ }
+    ensures lasts { λ _. ⌜ KeepsWithdrawn (now (register .entry)) (now (register .exit)) ⌝ }
 {
     if out.len() < room(deck.len()) {
         return Ran::NoRoom;

@@ -4,6 +4,7 @@ use libc::STDERR_FILENO;
 use libc::STDIN_FILENO;
 use libc::STDOUT_FILENO;
 ghost use mathlib.Core.Path.{_≡_};
+ghost use Prim.Native.Nat.{_≤_};
 ghost use lib.ListN.{length};
 
 // Room for a deck of the most bytes, and one more.
@@ -20,10 +21,43 @@ fn output_room() -> [u8; 2097248]
     [0; 2097248]
 }
 
-// Whether standard input is at its end. After a read that failed it is not: a further one fails too, or finds what was to come.
-fn ended() -> bool {
-    let mut probe = [0u8; 1];
-    libc::read(STDIN_FILENO, &mut probe) == 0
+// How many bytes were read, and whether that is all: the input ended there, or there was no more room.
+pub struct Reading {
+    pub bytes: usize,
+    pub whole: bool,
+}
+
+// How many bytes a read has brought, of at most so many. One that failed has brought none.
+fn brought(answer: isize, most: usize) -> usize
+    ensures { λ r. ⌜ r ≤ most ⌝ }
+{
+    if answer < 0 {
+        return 0;
+    }
+    let bytes = answer as usize;
+    if bytes < most { bytes } else { most }
+}
+
+// Reads until the room is full or the input ends. (`io::read_full` takes a read that fails for the end.)
+fn read_all(input: &mut [u8]) -> Reading
+    ensures { λ r. ⌜ r .bytes ≤ length (now (input .exit)) ⌝ }
+{
+    let mut done = 0;
+    while done < input.len() {
+        let answer = libc::read(STDIN_FILENO, &mut input[done..]);
+        let more = brought(answer, input.len() - done);
+        if more == 0 {
+            return Reading {
+                bytes: done,
+                whole: answer == 0,
+            };
+        }
+        done += more;
+    }
+    Reading {
+        bytes: done,
+        whole: true,
+    }
 }
 
 // Prints the listing of the first bytes of a deck, and answers whether all of it was written.
@@ -35,20 +69,18 @@ fn print(input: &[u8], out: &mut [u8]) -> bool {
     false
 }
 
-// `io::read_full` takes a read that fails for the end, so it is asked for again.
 fn main() {
     let mut input = input_room();
     let mut out = output_room();
-    let n = io::read_full(STDIN_FILENO, &mut input);
-    if n < 65537 {
-        if !ended() {
-            io::write_all(
-                STDERR_FILENO,
-                b"listing: the input could not be read to its end\n",
-            );
-            return;
-        }
+    let reading = read_all(&mut input);
+    if !reading.whole {
+        io::write_all(
+            STDERR_FILENO,
+            b"listing: the input could not be read to its end\n",
+        );
+        return;
     }
+    let n = reading.bytes;
     if !print(&input[..n], &mut out) {
         io::write_all(STDERR_FILENO, b"listing: the listing was cut short\n");
     }

@@ -2,3 +2,4 @@ pub mod Effects
 pub mod ListingFrom
 pub mod RegisterFrom
 pub mod Listing
+pub mod Withdrawals

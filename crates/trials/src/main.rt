@@ -1,8 +1,4 @@
 // The trial entries of document 01 that are not proved of the definitions, one line each, and every refusal beside what is just accepted.
-mod calls; // calls.rt: the calls, which print what they answer
-mod entries; // entries.rt: issue and withdraw, and what a cut write may leave
-mod sheets; // sheets.rt: the calls of a trial, on what it lends
-
 use trial::at;
 use trial::at::Trial;
 use trial::at::made_up;
@@ -10,6 +6,8 @@ use trial::at::walked;
 use trial::at::with;
 use trial::print;
 use trial::words;
+use trial_calls::entries;
+use trial_calls::sheets;
 
 // Units in the whole pool.
 const B: u64 = 1_000_000_000;

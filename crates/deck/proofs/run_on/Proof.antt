@@ -1,11 +1,13 @@
 -- `deck::run_on` meets its contract.
-use Prim.Native.Nat.{_≤_, _<_}
-use mathlib.Core.Path.{_∙_}
+use Prim.Native.Nat.{ℕ, _≤_, _<_}
+use mathlib.Core.Path.{_≡_, _∙_}
+use mathlib.Core.List.{List}
 use native.Mathlib.Omega.{arith}
 use Rattle.listings.proofs.Laws.{oversized, oversized-left, sized, sized-left}
-use Rattle.deck.proofs.Printing.{room-least, room-sized, no-room, no-room-left, left, printed}
+use Rattle.deck.proofs.Printing.{room-least, room-sized, no-room, no-room-left, left, keeps, printed}
 use lib.ListN.{length}
-use Rattle.deck.specs.Printing.{room as roomOf}
+use Rattle.listings.specs.Withdrawals.{KeepsWithdrawn}
+use Rattle.deck.specs.Printing.{room as roomOf, registerLeft}
 use borrow.Author.Needs.{needs}
 use Rattle.deck.proofs.run_on.Statement.{statement}
 use Rattle.deck.proofs.run_on.Tie as tie
@@ -20,6 +22,11 @@ past-tests c = c .before .before .before .before .before .before
 abbrev interpreted : tie.After-slice-known5 → tie.After-interpret
 interpreted c = c .before .before .before .before .before .before .before .before
 
+-- what is left, and that it keeps what is withdrawn
+kept-too : (s : tie.Start) {after : List ℕ} → after ≡ registerLeft (s .args .register .now) (s .args .deck .now) (s .args .out .now) →
+    (after ≡ registerLeft (s .args .register .now) (s .args .deck .now) (s .args .out .now)) × KeepsWithdrawn (s .args .register .now) after
+kept-too s e = (e, keeps (s .args .register .now) (s .args .deck .now) (s .args .out .now) e)
+
 room-requires : tie.Need-room-requires
 room-requires c κs = search needs
 
@@ -28,7 +35,7 @@ returns c =
     let s = start (c .before) in
     let short : length (s .args .out .now) < roomOf (length (s .args .deck .now)) = omega (arith, c .if1 .taken, c .before .room .ensures) in (
       no-room (s .args .register .now) (s .args .deck .now) (s .args .out .now) short,
-      no-room-left (s .args .register .now) (s .args .deck .now) (s .args .out .now) short,
+      kept-too s (no-room-left (s .args .register .now) (s .args .deck .now) (s .args .out .now) short),
     )
 
 put-deck-requires : tie.Need-put-deck-requires
@@ -51,8 +58,8 @@ returns-2 c =
       printed (s .args .register .now) (s .args .deck .now) (s .args .out .now) _ _ _ (omega (arith, fits, room))
           (oversized (s .args .register .now) (s .args .deck .now) long) (line .0)
           (omega (arith, fits, room, room-least (length (s .args .deck .now)), line .1)),
-      left (s .args .register .now) (s .args .deck .now) (s .args .out .now) (omega (arith, fits, room))
-          (oversized-left (s .args .register .now) (s .args .deck .now) long),
+      kept-too s (left (s .args .register .now) (s .args .deck .now) (s .args .out .now) (omega (arith, fits, room))
+          (oversized-left (s .args .register .now) (s .args .deck .now) long)),
     )
 
 slice-aggregate-interpret : tie.Need-slice-aggregate-interpret
@@ -90,8 +97,8 @@ returns-3 c =
     let short : length (s .args .deck .now) ≤ 65536 = omega (arith, e .if2 .left) in (
       printed (s .args .register .now) (s .args .deck .now) (s .args .out .now) _ _ _ fits
           (sized (s .args .register .now) (s .args .deck .now) short) (i .interpret .ensures .0) (i .interpret .ensures .1 .0),
-      left (s .args .register .now) (s .args .deck .now) (s .args .out .now) fits
-          (i .interpret .ensures .1 .1 ∙ sized-left (s .args .register .now) (s .args .deck .now) short),
+      kept-too s (left (s .args .register .now) (s .args .deck .now) (s .args .out .now) fits
+          (i .interpret .ensures .1 .1 ∙ sized-left (s .args .register .now) (s .args .deck .now) short)),
     )
 
 pub run-on-spec : {M : Type 1} → statement M

@@ -33,7 +33,7 @@ returns c =
       (
         (λ t. e t .out),
         (
-          r .ensures .1,
+          r .ensures .1 .0,
           λ h. told-apart _ _ _ _ _ e (omega (arith, start (ran c) .good, r .kept .1 .1 .0)) (sym (c .bytes-in .ensures) ∙ h),
         ),
       ),
