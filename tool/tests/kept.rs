@@ -313,7 +313,10 @@ fn a_command_has_not_the_descriptor_of_the_register() {
     let output = command.args(shell(script)).output().unwrap();
     let (status, printed, _) = told(&output);
     assert_eq!(status, 0);
-    assert!(printed.contains("pipe:") && printed.ends_with("all\n"), "{printed}");
+    assert!(
+        printed.contains("pipe:") && printed.ends_with("all\n"),
+        "{printed}"
+    );
     let ours = folder.0.display().to_string();
     assert!(!printed.contains(&ours), "{printed}");
 }
@@ -361,7 +364,11 @@ fn a_command_is_not_run_where_its_listing_is_lost() {
 fn a_listing_that_can_not_be_made() {
     let folder = Folder::new();
     new(&folder.register());
-    for listing in [folder.0.clone(), folder.0.join("none/listing"), folder.register()] {
+    for listing in [
+        folder.0.clone(),
+        folder.0.join("none/listing"),
+        folder.register(),
+    ] {
         let output = show_in_vain(&folder, &listing);
         assert_fault(&output, 5, "; nothing was run");
         assert_eq!(fs::read(folder.register()).unwrap(), BLANK_REGISTER);
@@ -407,23 +414,29 @@ fn descriptors(line: &str, status: i32, said: &str) {
 #[test]
 fn output_that_can_not_be_written() {
     let run = "\"$0\" run \"$1\" \"$2\"";
-    let closed = "standard output: closed; nothing was run";
-    descriptors(&format!("{run} >&-"), 5, closed);
-    descriptors(&format!("{run} <&- >&-"), 5, closed);
-    descriptors(&format!("{run} 1</dev/null"), 5, "standard output: not open for writing");
-    descriptors(&format!("{run} >>\"$1\""), 5, "standard output: the register itself");
-    descriptors(&format!("{run} 1<>\"$1\""), 5, "standard output: the register itself");
     let show = "\"$0\" show \"$1\" \"$2\" \"$3\" true";
-    descriptors(&format!("{show} >&-"), 5, closed);
-    descriptors(&format!("{show} 1<>\"$1\""), 5, "standard output: the register itself");
+    for (given, fault) in [
+        (">&-", "closed"),
+        ("<&- >&-", "closed"),
+        ("1</dev/null", "not open for writing"),
+        (">>\"$1\"", "the register itself"),
+        ("1<>\"$1\"", "the register itself"),
+    ] {
+        let said = format!("standard output: {fault}; nothing was run");
+        descriptors(&format!("{run} {given}"), 5, &said);
+        descriptors(&format!("{show} {given}"), 5, &said);
+    }
 }
 
 #[test]
 fn input_that_can_not_be_read() {
     let run = "\"$0\" run \"$1\" -";
-    descriptors(&format!("{run} <&-"), 1, "standard input: closed");
-    descriptors(&format!("{run} 0>/dev/null"), 1, "standard input: Bad file descriptor");
-    descriptors("\"$0\" show \"$1\" - \"$3\" true <&-", 1, "standard input: closed");
+    let show = "\"$0\" show \"$1\" - \"$3\" true";
+    for (given, fault) in [("<&-", "closed"), ("0>/dev/null", "Bad file descriptor")] {
+        let said = format!("standard input: {fault}");
+        descriptors(&format!("{run} {given}"), 1, &said);
+        descriptors(&format!("{show} {given}"), 1, &said);
+    }
 }
 
 /// A device that swallows all is output like any other, and input that is not
@@ -439,7 +452,11 @@ fn descriptors_that_are_not_needed() {
         let line = format!("\"$0\" run \"$1\" \"$2\" {line}");
         let command = command.args(["-c", &line, env!("CARGO_BIN_EXE_kept")]);
         let command = command.arg(folder.register()).arg(&deck);
-        assert_eq!(told(&command.output().unwrap()), (0, answer, false), "{line}");
+        assert_eq!(
+            told(&command.output().unwrap()),
+            (0, answer, false),
+            "{line}"
+        );
         assert_eq!(fs::read(folder.register()).unwrap(), blank_but(7, LIVE));
     }
 }

@@ -279,7 +279,10 @@ mod tests {
         let told = KeptRegister::made(file).unwrap_err();
         assert!(!path.exists());
         assert!(matches!(told, KeptError::Create(_)), "{told}");
-        assert!(told.to_string().ends_with("; nothing of it stands"), "{told}");
+        assert!(
+            told.to_string().ends_with("; nothing of it stands"),
+            "{told}"
+        );
     }
 
     /// What has its name by now is another's.

@@ -144,7 +144,10 @@ impl Write for Out {
             return Ok(());
         }
         let can_not_be_asked = |fault: &io::Error| {
-            matches!(fault.kind(), ErrorKind::InvalidInput | ErrorKind::Unsupported)
+            matches!(
+                fault.kind(),
+                ErrorKind::InvalidInput | ErrorKind::Unsupported
+            )
         };
         match self.0.sync_all() {
             Err(fault) if can_not_be_asked(&fault) => Ok(()),

@@ -56,7 +56,10 @@ impl fmt::Display for KeptError {
                 write!(f, "the register is in doubt after a failure: open it again")
             }
             KeptError::Forked => {
-                write!(f, "the register was opened by another process: open it again")
+                write!(
+                    f,
+                    "the register was opened by another process: open it again"
+                )
             }
             KeptError::Differs => write!(f, "the register is not what its deck leaves"),
             KeptError::Output(fault) => {
