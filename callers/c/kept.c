@@ -86,8 +86,9 @@ int main(int argc, char **argv)
         && (pwrite(file, &bytes[number], 1, (off_t)number) != 1 || fdatasync(file) != 0)) {
         fail("the register is in doubt");
     }
-    printf("%s %lu: %u, %s\n", argv[2], number, refusal, lavroudem_word(refusal));
-    if (fflush(stdout) != 0) {
+    /* A line that was lost on its way out is in no buffer any more. */
+    if (printf("%s %lu: %u, %s\n", argv[2], number, refusal, lavroudem_word(refusal)) < 0
+        || fflush(stdout) != 0 || ferror(stdout)) {
         fail("output lost; the register was written all the same");
     }
     return EXIT_SUCCESS;

@@ -3,6 +3,7 @@
 
 use std::env;
 use std::fs;
+use std::hash::{DefaultHasher, Hasher};
 use std::path::{Path, PathBuf};
 
 fn main() {
@@ -14,8 +15,16 @@ fn main() {
             archive(&folder, name).display()
         );
     }
-    println!("cargo:rustc-link-search=native={}", folder.display());
-    println!("cargo:rustc-link-lib=static={}", found(&folder));
+    let name = match found(&folder) {
+        Some(bytes) => own_copy(&bytes),
+        None => {
+            let folder = folder.display();
+            println!("cargo:warning={folder} has no archive: run `rt staticlib export` first");
+            // No file has this name, so that no other folder helps out.
+            "lavroudem-archive-that-is-missing".to_string()
+        }
+    };
+    println!("cargo:rustc-link-lib=static={name}");
 }
 
 const NAMES: [&str; 2] = ["lavroudem", "export"];
@@ -32,20 +41,30 @@ fn archive_folder() -> PathBuf {
     }
 }
 
-/// The name of the archive that is there. Two that differ are an error, since
-/// one of them is old.
-fn found(folder: &Path) -> &'static str {
+/// The archive that is there. Two that differ are an error, since one of them
+/// is old.
+fn found(folder: &Path) -> Option<Vec<u8>> {
     let [named, written] = NAMES.map(|name| fs::read(archive(folder, name)).ok());
     match (named, written) {
         (Some(named), Some(written)) if named != written => {
             panic!("{} has two archives that differ", folder.display());
         }
-        (Some(_), _) => NAMES[0],
-        (None, Some(_)) => NAMES[1],
-        (None, None) => {
-            let folder = folder.display();
-            println!("cargo:warning={folder} has no archive: run `rt staticlib export` first");
-            NAMES[1]
-        }
+        (named, written) => named.or(written),
     }
+}
+
+/// Whoever builds may have other folders searched before ours. So what is
+/// linked is a copy, under a name that goes with what is in it and that no
+/// other folder has.
+fn own_copy(bytes: &[u8]) -> String {
+    let mut sum = DefaultHasher::new();
+    sum.write(bytes);
+    let name = format!("lavroudem-{:016x}", sum.finish());
+    let folder = PathBuf::from(env::var_os("OUT_DIR").expect("cargo names it"));
+    let copy = archive(&folder, &name);
+    if let Err(fault) = fs::write(&copy, bytes) {
+        panic!("{}: {fault}", copy.display());
+    }
+    println!("cargo:rustc-link-search=native={}", folder.display());
+    name
 }

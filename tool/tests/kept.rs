@@ -219,16 +219,258 @@ fn a_listing_into_a_closed_pipe() {
 
 #[test]
 fn wrong_usage() {
-    let wrong: [&[&str]; 6] = [
+    let wrong: [&[&str]; 8] = [
         &[],
         &["new"],
         &["run", "register"],
         &["old", "register"],
         &["new", "register", "deck"],
         &["run", "register", "deck", "more"],
+        &["show", "register", "deck"],
+        &["show", "register", "deck", "listing"],
     ];
     for words in wrong {
         let output = kept().args(words).output().unwrap();
         assert_fault(&output, 2, "usage: kept new REGISTER");
     }
+}
+
+// ---- a listing that is shown while the register is locked
+
+/// `kept show` of the worked deck on the register of a folder.
+fn show(folder: &Folder, listing: &Path) -> Command {
+    let deck = folder.file("deck", WORKED_DECK);
+    let mut command = kept();
+    command.arg("show").arg(folder.register()).arg(deck);
+    command.arg(listing);
+    command
+}
+
+fn shell(script: &str) -> [&str; 3] {
+    ["sh", "-c", script]
+}
+
+#[test]
+fn a_command_has_the_register_to_itself() {
+    let folder = Folder::new();
+    new(&folder.register());
+    let second = folder.file("second", &[0x06, 9]);
+    // What was there before is longer.
+    let listing = folder.file("listing", &[b'x'; 5_000]);
+    let mut command = show(&folder, &listing);
+    let command = command.arg(env!("CARGO_BIN_EXE_kept")).arg("run");
+    let output = command.arg(folder.register()).arg(&second).output();
+    assert_fault(&output.unwrap(), 7, "the register is in use");
+    assert_eq!(fs::read_to_string(&listing).unwrap(), WORKED_LISTING);
+    let left = blank_but(7, WITHDRAWN);
+    assert_eq!(fs::read(folder.register()).unwrap(), left);
+    let output = run(&folder.register(), &second);
+    assert_eq!(told(&output), (0, "issue 0\n", false));
+}
+
+#[test]
+fn a_command_has_what_it_needs_and_answers_by_its_status() {
+    let folder = Folder::new();
+    new(&folder.register());
+    let listing = folder.0.join("listing");
+    for (script, status) in [("", 0), ("exit 3", 3), ("exit 255", 255)] {
+        let mut command = show(&folder, &listing);
+        let output = command.args(shell(script)).output().unwrap();
+        assert_eq!(told(&output), (status, "", false));
+    }
+    let input = File::open(folder.file("input", b"input")).unwrap();
+    let script = "cat - \"$0\"; echo told >&2; exit 6";
+    let mut command = show(&folder, &listing);
+    let command = command.args(shell(script)).arg(&listing).stdin(input);
+    let output = command.output().unwrap();
+    assert_eq!(told(&output), (6, &format!("input{REFUSED}")[..], true));
+    assert_eq!(output.stderr, b"told\n");
+}
+
+/// What follows a deck on standard input is the command's; the longest deck
+/// and one byte are read.
+#[test]
+fn a_deck_from_standard_input_before_a_command() {
+    let folder = Folder::new();
+    new(&folder.register());
+    let mut bytes = vec![0x06; MAX_DECK + 1];
+    bytes.extend(b"more");
+    let input = File::open(folder.file("input", &bytes)).unwrap();
+    let mut command = kept();
+    let command = command.arg("show").arg(folder.register()).arg("-");
+    let command = command.arg(folder.0.join("listing")).arg("cat");
+    let output = command.stdin(input).output().unwrap();
+    assert_eq!(told(&output), (0, "more", false));
+}
+
+/// Else the lock would stay with a command that outlives the program.
+#[test]
+fn a_command_has_not_the_descriptor_of_the_register() {
+    let folder = Folder::new();
+    new(&folder.register());
+    let script = "for file in /proc/$$/fd/*; do readlink \"$file\"; done; echo all";
+    let mut command = show(&folder, &folder.0.join("listing"));
+    let output = command.args(shell(script)).output().unwrap();
+    let (status, printed, _) = told(&output);
+    assert_eq!(status, 0);
+    assert!(
+        printed.contains("pipe:") && printed.ends_with("all\n"),
+        "{printed}"
+    );
+    let ours = folder.0.display().to_string();
+    assert!(!printed.contains(&ours), "{printed}");
+}
+
+#[test]
+fn a_command_that_can_not_be_run_or_is_killed() {
+    let folder = Folder::new();
+    new(&folder.register());
+    let listing = folder.0.join("listing");
+    let missing = folder.0.join("missing");
+    let output = show(&folder, &listing).arg(missing).output().unwrap();
+    assert_fault(&output, 5, "missing: No such file");
+    assert_fault(&output, 5, "the register was written all the same");
+    let left = blank_but(7, WITHDRAWN);
+    assert_eq!(fs::read(folder.register()).unwrap(), left);
+    let killed = shell("kill -9 $$");
+    let output = show(&folder, &listing).args(killed).output().unwrap();
+    assert_fault(&output, 5, "sh: signal: 9");
+    drop(KeptRegister::open(folder.register()).unwrap());
+}
+
+/// `kept show` with a command that leaves a mark, which must not be there.
+fn show_in_vain(folder: &Folder, listing: &Path) -> Output {
+    let mark = folder.0.join("mark");
+    let mut command = show(folder, listing);
+    let output = command.arg("touch").arg(&mark).output().unwrap();
+    assert!(!mark.exists());
+    output
+}
+
+#[test]
+fn a_command_is_not_run_where_its_listing_is_lost() {
+    let folder = Folder::new();
+    new(&folder.register());
+    let output = show_in_vain(&folder, Path::new("/dev/full"));
+    assert_fault(&output, 5, "/dev/full: output lost");
+    assert_fault(&output, 5, "the register was written all the same");
+    let left = blank_but(7, WITHDRAWN);
+    assert_eq!(fs::read(folder.register()).unwrap(), left);
+}
+
+/// Of a listing that can't be made, or is the register, this is known before
+/// anything is written.
+#[test]
+fn a_listing_that_can_not_be_made() {
+    let folder = Folder::new();
+    new(&folder.register());
+    for listing in [
+        folder.0.clone(),
+        folder.0.join("none/listing"),
+        folder.register(),
+    ] {
+        let output = show_in_vain(&folder, &listing);
+        assert_fault(&output, 5, "; nothing was run");
+        assert_eq!(fs::read(folder.register()).unwrap(), BLANK_REGISTER);
+    }
+}
+
+/// Who has the register may have a listing of that name.
+#[test]
+fn a_listing_is_left_alone_where_the_register_is_in_use() {
+    let folder = Folder::new();
+    let listing = folder.file("listing", b"another's");
+    let register = KeptRegister::create(folder.register()).unwrap();
+    assert_fault(&show_in_vain(&folder, &listing), 7, "in use");
+    assert_eq!(fs::read(&listing).unwrap(), b"another's");
+    drop(register);
+    fs::remove_file(folder.register()).unwrap();
+    assert_fault(&show_in_vain(&folder, &listing), 7, "can't be opened");
+    fs::remove_file(folder.0.join("deck")).unwrap();
+    let mut command = kept();
+    let command = command.arg("show").arg(folder.register());
+    let command = command.arg(folder.0.join("deck")).arg(&listing).arg("true");
+    assert_fault(&command.output().unwrap(), 1, "deck: ");
+}
+
+// ---- descriptors that can't be used
+
+/// What a line of a shell makes of `"$0"`, the program, on the register `"$1"`
+/// and the deck `"$2"`; `"$3"` is a file for a listing. Nothing is written.
+fn descriptors(line: &str, status: i32, said: &str) {
+    let folder = Folder::new();
+    new(&folder.register());
+    let deck = folder.file("deck", WORKED_DECK);
+    let mut command = Command::new("sh");
+    let command = command.args(["-c", line, env!("CARGO_BIN_EXE_kept")]);
+    let command = command.arg(folder.register()).arg(deck);
+    let command = command.arg(folder.0.join("listing")).stdin(Stdio::null());
+    let output = command.output().unwrap();
+    assert_fault(&output, status, said);
+    assert_eq!(fs::read(folder.register()).unwrap(), BLANK_REGISTER);
+}
+
+/// A closed one is not taken for one that swallows all.
+#[test]
+fn output_that_can_not_be_written() {
+    let run = "\"$0\" run \"$1\" \"$2\"";
+    let show = "\"$0\" show \"$1\" \"$2\" \"$3\" true";
+    for (given, fault) in [
+        (">&-", "closed"),
+        ("<&- >&-", "closed"),
+        ("1</dev/null", "not open for writing"),
+        (">>\"$1\"", "the register itself"),
+        ("1<>\"$1\"", "the register itself"),
+    ] {
+        let said = format!("standard output: {fault}; nothing was run");
+        descriptors(&format!("{run} {given}"), 5, &said);
+        descriptors(&format!("{show} {given}"), 5, &said);
+    }
+}
+
+#[test]
+fn input_that_can_not_be_read() {
+    let run = "\"$0\" run \"$1\" -";
+    let show = "\"$0\" show \"$1\" - \"$3\" true";
+    for (given, fault) in [("<&-", "closed"), ("0>/dev/null", "Bad file descriptor")] {
+        let said = format!("standard input: {fault}");
+        descriptors(&format!("{run} {given}"), 1, &said);
+        descriptors(&format!("{show} {given}"), 1, &said);
+    }
+}
+
+/// A device that swallows all is output like any other, and input that is not
+/// asked for may be closed.
+#[test]
+fn descriptors_that_are_not_needed() {
+    let folder = Folder::new();
+    new(&folder.register());
+    let deck = folder.file("deck", &[0x06, 7]);
+    let lines = ["1<>/dev/null", ">/dev/null", "<&-", "2>&-"];
+    for (line, answer) in lines.into_iter().zip(["", "", "issue 17\n", "issue 17\n"]) {
+        let mut command = Command::new("sh");
+        let line = format!("\"$0\" run \"$1\" \"$2\" {line}");
+        let command = command.args(["-c", &line, env!("CARGO_BIN_EXE_kept")]);
+        let command = command.arg(folder.register()).arg(&deck);
+        assert_eq!(
+            told(&command.output().unwrap()),
+            (0, answer, false),
+            "{line}"
+        );
+        assert_eq!(fs::read(folder.register()).unwrap(), blank_but(7, LIVE));
+    }
+}
+
+// ---- a file that comes to nothing
+
+#[test]
+fn a_register_without_room_leaves_no_file() {
+    let folder = Folder::new();
+    let mut command = Command::new("sh");
+    let line = "trap '' XFSZ; ulimit -f 0; exec \"$0\" new \"$1\"";
+    let command = command.args(["-c", line, env!("CARGO_BIN_EXE_kept")]);
+    let output = command.arg(folder.register()).output().unwrap();
+    assert_fault(&output, 7, "the register can't be made: File too large");
+    assert_fault(&output, 7, "; nothing of it stands");
+    assert!(!folder.register().exists());
 }

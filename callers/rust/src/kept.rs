@@ -11,6 +11,7 @@ use crate::refusal::Refusal;
 use crate::REGISTER_LENGTH;
 use std::io::{self, Write};
 use std::path::Path;
+use std::process;
 
 /// Where the bytes of a register are kept: a file, or a device of your own.
 ///
@@ -37,7 +38,9 @@ pub trait RegisterStore {
 /// nothing more, and the register is opened again.
 ///
 /// The file is locked against a second user as long as this value lives. The
-/// lock binds only those who ask for it, as [`KeptRegister::open`] does.
+/// lock binds only those who ask for it, as [`KeptRegister::open`] does. A fork
+/// of the process has the lock too, and a copy of this value that answers
+/// nothing; dropped there, it leaves the lock as it is.
 ///
 /// ```
 /// use lavroudem::{KeptError, KeptRegister, Refusal};
@@ -64,17 +67,30 @@ pub struct KeptRegister<S = RegisterFile> {
     bytes: [u8; REGISTER_LENGTH],
     /// A write was begun and is not known to be finished.
     in_doubt: bool,
+    /// The process that opened it.
+    opener: u32,
 }
 
 impl KeptRegister {
     /// Makes a file with a blank register, and forces the file and its folder
-    /// to the disk. A file that exists is an error and stays as it is.
+    /// to the disk. A file that exists is an error and stays as it is. A file
+    /// that comes to nothing is removed, or the error says that it may stand.
     pub fn create(path: impl AsRef<Path>) -> Result<KeptRegister, KeptError> {
-        KeptRegister::over(RegisterFile::create(path.as_ref())?)
+        KeptRegister::made(RegisterFile::create(path.as_ref())?)
     }
 
-    /// Opens and locks a register. A missing, shorter or longer file is an
-    /// error, never a blank register; so is one that somebody else has open.
+    fn made(file: RegisterFile) -> Result<KeptRegister, KeptError> {
+        let mut kept = KeptRegister::unread(file);
+        match kept.read_in() {
+            Ok(()) => Ok(kept),
+            Err(fault) => Err(kept.store.unmake(&fault)),
+        }
+    }
+
+    /// Opens and locks a register, and forces its folder to the disk. A
+    /// missing, shorter or longer file is an error, never a blank register; so
+    /// is one that somebody else has open. The name must lead to the file as
+    /// long as it is in use, also where it is a link.
     pub fn open(path: impl AsRef<Path>) -> Result<KeptRegister, KeptError> {
         KeptRegister::over(RegisterFile::open(path.as_ref())?)
     }
@@ -82,17 +98,26 @@ impl KeptRegister {
 
 impl<S: RegisterStore> KeptRegister<S> {
     /// Reads the register of a store, and forces to the disk what was read.
-    pub fn over(mut store: S) -> Result<KeptRegister<S>, KeptError> {
-        let found = store.read().map_err(KeptError::Open)?;
-        let length = found.len() as u64;
-        let bytes = found.try_into().map_err(|_| KeptError::Length(length))?;
-        let mut kept = KeptRegister {
-            store,
-            bytes,
-            in_doubt: true,
-        };
-        kept.settle()?;
+    pub fn over(store: S) -> Result<KeptRegister<S>, KeptError> {
+        let mut kept = KeptRegister::unread(store);
+        kept.read_in()?;
         Ok(kept)
+    }
+
+    fn unread(store: S) -> KeptRegister<S> {
+        KeptRegister {
+            store,
+            bytes: [crate::WITHDRAWN; REGISTER_LENGTH],
+            in_doubt: true,
+            opener: process::id(),
+        }
+    }
+
+    fn read_in(&mut self) -> Result<(), KeptError> {
+        let found = self.store.read().map_err(KeptError::Open)?;
+        let length = found.len() as u64;
+        self.bytes = found.try_into().map_err(|_| KeptError::Length(length))?;
+        self.settle()
     }
 
     /// After a sync that failed a read may find, in a cache, what the disk
@@ -111,6 +136,9 @@ impl<S: RegisterStore> KeptRegister<S> {
     /// while they have it. A copy of it is no register: it goes on saying what
     /// was so when it was made.
     pub fn bytes(&self) -> Result<&[u8; REGISTER_LENGTH], KeptError> {
+        if self.opener != process::id() {
+            return Err(KeptError::Forked);
+        }
         if self.in_doubt {
             return Err(KeptError::InDoubt);
         }
@@ -232,5 +260,44 @@ impl<W: Write> Screen<'_, W> {
         if self.lost.is_none() {
             self.lost = self.out.flush().err();
         }
+    }
+}
+
+#[cfg(test)]
+mod tests {
+    use super::*;
+    use std::fs::{self, File};
+
+    /// A register that came to nothing after its file was made.
+    #[test]
+    fn a_new_file_that_can_not_be_settled_is_removed() {
+        let name = format!("lavroudem-unsettled-{}", process::id());
+        let path = std::env::temp_dir().join(name);
+        let file = RegisterFile::create(&path).unwrap();
+        let cut = File::options().write(true).open(&path).unwrap();
+        cut.set_len(7).unwrap();
+        let told = KeptRegister::made(file).unwrap_err();
+        assert!(!path.exists());
+        assert!(matches!(told, KeptError::Create(_)), "{told}");
+        assert!(
+            told.to_string().ends_with("; nothing of it stands"),
+            "{told}"
+        );
+    }
+
+    /// What has its name by now is another's.
+    #[test]
+    fn a_file_that_is_not_ours_is_not_removed() {
+        let name = format!("lavroudem-others-{}", process::id());
+        let path = std::env::temp_dir().join(name);
+        let file = RegisterFile::create(&path).unwrap();
+        fs::remove_file(&path).unwrap();
+        fs::write(&path, "another").unwrap();
+        let told = KeptRegister::made(file).unwrap_err();
+        let left = fs::read(&path);
+        fs::remove_file(&path).unwrap();
+        assert_eq!(left.unwrap(), b"another");
+        assert!(matches!(told, KeptError::Create(_)), "{told}");
+        assert!(told.to_string().contains("may stand"), "{told}");
     }
 }

@@ -7,7 +7,32 @@ use std::fmt;
 macro_rules! refusals {
     ($($(#[$doc:meta])* $name:ident, $number:literal, $word:literal;)*) => {
         /// Why a call is refused, in the order in which a call checks. A
-        /// later engine may have more, so a `match` needs an arm for them.
+        /// later engine may have more, so a `match` needs an arm for them:
+        ///
+        /// ```
+        /// # fn shown(refusal: lavroudem::Refusal) {
+        /// match refusal {
+        ///     lavroudem::Refusal::Pool => println!("no such pool"),
+        #[doc = concat!($("# lavroudem::Refusal::", stringify!($name), " => {}\n",)*)]
+        /// #   lavroudem::Refusal::Other(_) => {}
+        ///     // And the others that there are by now.
+        ///     _ => println!("{refusal}"),
+        /// }
+        /// # }
+        /// ```
+        ///
+        /// Without it the program is not compiled:
+        ///
+        /// ```compile_fail,E0004
+        /// # fn shown(refusal: lavroudem::Refusal) {
+        /// match refusal {
+        ///     lavroudem::Refusal::Pool => println!("no such pool"),
+        #[doc = concat!($("# lavroudem::Refusal::", stringify!($name), " => {}\n",)*)]
+        /// #   lavroudem::Refusal::Other(_) => {}
+        ///     // And the others that there are by now.
+        /// }
+        /// # }
+        /// ```
         #[derive(Clone, Copy, Debug, PartialEq, Eq, Hash)]
         #[non_exhaustive]
         pub enum Refusal {

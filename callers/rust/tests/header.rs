@@ -78,6 +78,16 @@ fn the_version_is_linked() {
     assert!(HEADER.contains(&format!("lavroudem_linked_version)(void) = {name};")));
 }
 
+/// A program with two versions of the crate would have two archives with the
+/// same names; cargo refuses that.
+#[test]
+fn one_archive_in_a_program() {
+    let manifest = include_str!("../Cargo.toml");
+    let (_, package) = manifest.split_once("[package]\n").unwrap();
+    let package = package.split("\n[").next().unwrap();
+    assert!(package.lines().any(|line| line == "links = \"lavroudem\""));
+}
+
 /// The header's table of words, in the order of their numbers.
 #[test]
 fn words_are_the_same() {

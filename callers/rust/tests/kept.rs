@@ -5,6 +5,7 @@ use lavroudem::*;
 use std::cell::RefCell;
 use std::fs;
 use std::io::{self, Write};
+use std::os::unix::fs::symlink;
 use std::path::{Path, PathBuf};
 use std::rc::Rc;
 use std::sync::atomic::{AtomicUsize, Ordering};
@@ -191,6 +192,28 @@ fn a_deck_is_done_where_its_listing_is_lost() {
         // The register is good: only the listing was lost.
         refuses(register.issue(7), Refusal::Withdrawn);
     }
+}
+
+/// Takes all, and loses it at the end.
+struct Late;
+
+impl Write for Late {
+    fn write(&mut self, bytes: &[u8]) -> io::Result<usize> {
+        Ok(bytes.len())
+    }
+
+    fn flush(&mut self) -> io::Result<()> {
+        Err(io::Error::other("full"))
+    }
+}
+
+#[test]
+fn a_listing_that_is_lost_at_the_end() {
+    let folder = Folder::new();
+    let mut register = KeptRegister::create(folder.register()).unwrap();
+    let lost = register.run_deck(WORKED_DECK, &mut Late);
+    assert!(matches!(lost, Err(KeptError::Output(_))), "{lost:?}");
+    refuses(register.issue(7), Refusal::Withdrawn);
 }
 
 #[test]
@@ -382,6 +405,10 @@ fn errors_say_what_to_do() {
             KeptError::InDoubt,
             "the register is in doubt after a failure: open it again",
         ),
+        (
+            KeptError::Forked,
+            "the register was opened by another process: open it again",
+        ),
     ];
     for (error, text) in texts {
         assert_eq!(error.to_string(), text);
@@ -391,7 +418,7 @@ fn errors_say_what_to_do() {
 /// A file that is moved away, replaced or cut is told before any answer.
 #[test]
 fn a_file_that_is_not_found_again() {
-    let spoil: [fn(&Path); 3] = [
+    let spoil: [fn(&Path); 4] = [
         |path| fs::rename(path, path.with_extension("away")).unwrap(),
         |path| {
             let copy = path.with_extension("copy");
@@ -401,6 +428,10 @@ fn a_file_that_is_not_found_again() {
         |path| {
             let file = fs::File::options().write(true).open(path).unwrap();
             file.set_len(7).unwrap();
+        },
+        |path| {
+            let file = fs::File::options().write(true).open(path).unwrap();
+            file.set_len(257).unwrap();
         },
     ];
     for spoil in spoil {
@@ -427,16 +458,190 @@ fn a_register_file_only_loses_bits() {
     assert_eq!(fs::read(&path).unwrap().len(), 256);
 }
 
-/// What no test can see without a power loss is read: a sync reaches the
-/// disk, and a new name too.
+/// A deck that writes nothing shows nothing of a file that is moved away.
+#[test]
+fn a_deck_without_writes_on_a_file_that_is_not_found_again() {
+    let folder = Folder::new();
+    let path = folder.register();
+    let mut kept = KeptRegister::create(&path).unwrap();
+    fs::rename(&path, folder.0.join("away")).unwrap();
+    let mut shown = Vec::new();
+    let done = kept.run_deck(&[0x07, 7], &mut shown);
+    assert!(matches!(done, Err(KeptError::Open(_))), "{done:?}");
+    assert!(shown.is_empty());
+}
+
+/// Turns a link, once what it leads to is copied to where it will lead.
+fn turn(link: &Path, to: &Path) {
+    fs::remove_file(link).unwrap();
+    symlink(to, link).unwrap();
+}
+
+/// Whoever opens the name would find the number live.
+fn loses_its_name(mut kept: KeptRegister) {
+    assert!(matches!(kept.withdraw(7), Err(KeptError::Write(_))));
+    assert!(matches!(kept.bytes(), Err(KeptError::InDoubt)));
+}
+
+#[test]
+fn a_link_that_is_turned_elsewhere() {
+    let folder = Folder::new();
+    let (one, two) = (folder.0.join("one"), folder.0.join("two"));
+    drop(KeptRegister::create(&one).unwrap());
+    symlink(&one, folder.register()).unwrap();
+    let mut kept = KeptRegister::open(folder.register()).unwrap();
+    kept.issue(7).unwrap();
+    fs::copy(&one, &two).unwrap();
+    turn(&folder.register(), &two);
+    loses_its_name(kept);
+}
+
+/// Of a register that is made as of one that is opened.
+#[test]
+fn a_linked_folder_that_is_turned_elsewhere() {
+    let from: [fn(&Path) -> KeptRegister; 2] = [
+        |path| KeptRegister::create(path).unwrap(),
+        |path| {
+            drop(KeptRegister::create(path).unwrap());
+            KeptRegister::open(path).unwrap()
+        },
+    ];
+    for from in from {
+        let folder = Folder::new();
+        let [one, two, here] = ["one", "two", "here"].map(|name| folder.0.join(name));
+        fs::create_dir(&one).unwrap();
+        fs::create_dir(&two).unwrap();
+        symlink(&one, &here).unwrap();
+        let mut kept = from(&here.join("register"));
+        kept.issue(7).unwrap();
+        fs::copy(one.join("register"), two.join("register")).unwrap();
+        turn(&here, &two);
+        loses_its_name(kept);
+    }
+}
+
+// ---- forks
+
+extern "C" {
+    fn fork() -> i32;
+    fn kill(process: i32, signal: i32) -> i32;
+    fn sleep(seconds: u32) -> u32;
+    fn waitpid(process: i32, status: *mut i32, options: i32) -> i32;
+    fn _exit(status: i32) -> !;
+}
+
+/// A copy of this process, ended with the value.
+struct Fork(i32);
+
+impl Fork {
+    /// The copy has one thread, and does this and no more.
+    fn doing(it: impl FnOnce() -> bool) -> Fork {
+        match unsafe { fork() } {
+            0 => unsafe { _exit(if it() { 0 } else { 1 }) },
+            process => {
+                assert!(process > 0);
+                Fork(process)
+            }
+        }
+    }
+
+    /// Whether it did what it should.
+    fn ended_well(self) -> bool {
+        let mut status = -1;
+        let ended = unsafe { waitpid(self.0, &mut status, 0) };
+        let process = self.0;
+        std::mem::forget(self);
+        ended == process && status == 0
+    }
+}
+
+impl Drop for Fork {
+    fn drop(&mut self) {
+        unsafe {
+            kill(self.0, 9);
+            waitpid(self.0, std::ptr::null_mut(), 0);
+        }
+    }
+}
+
+/// Both sides have the lock, and it is the opener's to give back.
+#[test]
+fn a_fork_that_drops_a_register_leaves_it_locked() {
+    let folder = Folder::new();
+    let mut kept = Some(KeptRegister::create(folder.register()).unwrap());
+    let fork = Fork::doing(|| kept.take().is_some());
+    assert!(fork.ended_well());
+    let second = KeptRegister::open(folder.register());
+    assert!(matches!(second, Err(KeptError::InUse)), "{second:?}");
+    kept.unwrap().issue(7).unwrap();
+}
+
+/// Each would go on with a copy of its own.
+#[test]
+fn a_fork_is_answered_nothing() {
+    let folder = Folder::new();
+    let mut kept = KeptRegister::create(folder.register()).unwrap();
+    kept.issue(7).unwrap();
+    let calls: [fn(&mut KeptRegister) -> Result<(), KeptError>; 4] = [
+        |kept| kept.bytes().map(|_| ()),
+        |kept| kept.issue(8),
+        |kept| kept.withdraw(7),
+        |kept| kept.run_deck(&[0x07, 9, 0x07, 7], &mut Full(0)),
+    ];
+    for call in calls {
+        let fork = Fork::doing(|| matches!(call(&mut kept), Err(KeptError::Forked)));
+        assert!(fork.ended_well());
+    }
+    assert_eq!(file(&folder.register()), blank_but(7, LIVE));
+    kept.withdraw(7).unwrap();
+}
+
+#[test]
+fn a_fork_reads_and_writes_no_register_file() {
+    let folder = Folder::new();
+    let mut kept = RegisterFile::create(&folder.register()).unwrap();
+    let calls: [fn(&mut RegisterFile) -> bool; 3] = [
+        |kept| kept.read().is_err(),
+        |kept| kept.write(7, LIVE).is_err(),
+        |kept| kept.sync().is_err(),
+    ];
+    for call in calls {
+        assert!(Fork::doing(|| call(&mut kept)).ended_well());
+        assert!(!call(&mut kept));
+    }
+}
+
+/// A child has the descriptor until it runs its program. One that never does
+/// keeps nobody from the register.
+#[test]
+fn a_register_is_free_though_a_fork_has_its_descriptor() {
+    let folder = Folder::new();
+    let kept = KeptRegister::create(folder.register()).unwrap();
+    let fork = Fork::doing(|| unsafe { sleep(60) } == 0);
+    drop(kept);
+    let opened = KeptRegister::open(folder.register());
+    drop(fork);
+    opened.unwrap();
+}
+
+// ---- what no test can see without a power loss
+
+/// It is read: a sync reaches the disk, and so do a new name and one that is
+/// opened. Which folders are forced is seen by the tests beside the source.
 #[test]
 fn the_file_is_forced_to_the_disk() {
     let source = include_str!("../src/kept/file.rs");
     let body = |name: &str| {
         let start = source.find(name).unwrap();
-        &source[start..start + source[start..].find("\n    }\n").unwrap()]
+        let length = source[start..].find("\n    }\n").unwrap();
+        &source[start..start + length]
     };
     assert!(body("fn sync(").contains("self.file.sync_data()?;"));
-    assert!(source.contains("written.and_then(|()| file.sync_all())"));
-    assert!(source.contains("forced.and_then(|()| folder_of(path)?.sync_all())"));
+    assert!(body("fn fill(").contains("written.and_then(|()| self.file.sync_all())"));
+    assert!(body("fn fill(").contains("forced.and_then(|()| force_name(&self.path))"));
+    assert!(body("pub fn open(").contains("found.force_names().map_err(KeptError::Open)?;"));
+    assert!(body("fn force_names(").contains("for name in self.names()? {"));
+    assert!(body("fn force_names(").contains("force_where_possible(&name)?;"));
+    assert!(body("fn force_where_possible(").contains("match force_name(path) {"));
+    assert!(body("fn force_name(").contains("    folder_of(path)?.sync_all()\n"));
 }

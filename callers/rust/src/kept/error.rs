@@ -24,6 +24,9 @@ pub enum KeptError {
     Write(io::Error),
     /// A write failed earlier: the register must be opened again.
     InDoubt,
+    /// Another process opened it, of which this one is a fork: the register
+    /// must be opened again.
+    Forked,
     /// The register is not what its deck leaves: something else wrote it.
     Differs,
     /// The listing of a deck was cut short. The register was written.
@@ -51,6 +54,12 @@ impl fmt::Display for KeptError {
             }
             KeptError::InDoubt => {
                 write!(f, "the register is in doubt after a failure: open it again")
+            }
+            KeptError::Forked => {
+                write!(
+                    f,
+                    "the register was opened by another process: open it again"
+                )
             }
             KeptError::Differs => write!(f, "the register is not what its deck leaves"),
             KeptError::Output(fault) => {
