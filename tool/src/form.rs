@@ -17,7 +17,16 @@ pub enum Form {
 /// Some editors put it in front of a text.
 const BYTE_ORDER_MARK: &[u8] = b"\xEF\xBB\xBF";
 
-const UTF_16_MARKS: [&[u8]; 2] = [b"\xFF\xFE", b"\xFE\xFF"];
+/// Those of other encodings. The first starts with the third.
+const OTHER_MARKS: [(&[u8], &str); 4] = [
+    (b"\xFF\xFE\0\0", UTF_32),
+    (b"\0\0\xFE\xFF", UTF_32),
+    (b"\xFF\xFE", UTF_16),
+    (b"\xFE\xFF", UTF_16),
+];
+
+const UTF_16: &str = "UTF-16";
+const UTF_32: &str = "UTF-32";
 
 /// The text without a byte order mark.
 pub fn without_mark(bytes: &[u8]) -> &[u8] {
@@ -56,8 +65,8 @@ pub fn as_text(bytes: &[u8]) -> Result<&str, Mistake> {
         Ok(text) => return Ok(text),
         Err(fault) => fault,
     };
-    if is_utf_16(bytes) {
-        return Err(utf_16());
+    if let Some(mistake) = other_encoding(bytes) {
+        return Err(mistake);
     }
     let place = bytes.len() - text.len() + fault.valid_up_to();
     Err(odd_byte(bytes, place, "which is not UTF-8"))
@@ -67,8 +76,8 @@ pub fn as_text(bytes: &[u8]) -> Result<&str, Mistake> {
 /// file is no deck either: a deck stops at an unknown byte or a cut command
 /// where words stand. So nothing that the engine runs to its end is held up.
 pub fn nearly_text(bytes: &[u8]) -> Option<Mistake> {
-    if is_utf_16(bytes) {
-        return Some(utf_16());
+    if let Some(mistake) = other_encoding(bytes) {
+        return Some(mistake);
     }
     let stop = course(&bytes[..bytes.len().min(MAX_DECK)]).stop?;
     if stop.refusal == Refusal::TooMany || !has_words(bytes) {
@@ -101,23 +110,26 @@ fn has_words(bytes: &[u8]) -> bool {
     text.starts_with(b"#") || text.split(|&byte| byte == b'\n').any(is_word)
 }
 
-/// With its mark, or with words in every other byte and zeros between.
+/// Told by its mark, or by words in every other byte and zeros between.
+fn other_encoding(bytes: &[u8]) -> Option<Mistake> {
+    let marked = OTHER_MARKS.iter().find(|(mark, _)| bytes.starts_with(mark));
+    let name = match marked {
+        Some(&(_, name)) => name,
+        None if is_utf_16(bytes) => UTF_16,
+        None => return None,
+    };
+    Some(Mistake {
+        line: 1,
+        reason: format!("this is {name}; a text deck is UTF-8"),
+    })
+}
+
 fn is_utf_16(bytes: &[u8]) -> bool {
-    if UTF_16_MARKS.iter().any(|mark| bytes.starts_with(mark)) {
-        return true;
-    }
     [0, 1].into_iter().any(|first| {
         let every_other = |from: usize| bytes.iter().copied().skip(from).step_by(2);
         let words: Vec<u8> = every_other(first).collect();
         every_other(1 - first).all(|byte| byte == 0) && has_words(&words)
     })
-}
-
-fn utf_16() -> Mistake {
-    Mistake {
-        line: 1,
-        reason: "this is UTF-16; a text deck is UTF-8".to_string(),
-    }
 }
 
 /// Tells a byte by its line and its place there, counted from 1.

@@ -143,7 +143,7 @@ fn too_long(text: &[u8]) -> Mistake {
 /// The bytes of a line, and how often they come.
 fn assemble_line(line: &str) -> Result<(Vec<u8>, usize), String> {
     // An editor would show two lines, of which a comment hides one.
-    if let Some(end) = line.chars().find(|c| matches!(c, '\r' | '\u{2028}' | '\u{2029}')) {
+    if let Some(end) = line.chars().find(|&c| ends_a_line_elsewhere(c)) {
         return Err(format!("{} within the line; a line ends in 0A", quote::word(&end.to_string())));
     }
     let code = line.split('#').next().unwrap_or_default();
@@ -157,6 +157,11 @@ fn assemble_line(line: &str) -> Result<(Vec<u8>, usize), String> {
             Ok((command.encode(&numbers(command, operands)?), times))
         }
     }
+}
+
+/// Those of Unicode but 0A, which ends one here.
+fn ends_a_line_elsewhere(c: char) -> bool {
+    matches!(c, '\u{B}' | '\u{C}' | '\r' | '\u{85}' | '\u{2028}' | '\u{2029}')
 }
 
 fn by_word(word: &str) -> Option<&'static Command> {

@@ -223,7 +223,9 @@ fn a_byte_order_mark_is_skipped() {
 
 const UTF_16: &str = "line 1: this is UTF-16; a text deck is UTF-8";
 
-const NEARLY_TEXT: [(&[u8], &str); 8] = [
+const UTF_32: &str = "line 1: this is UTF-32; a text deck is UTF-8";
+
+const NEARLY_TEXT: [(&[u8], &str); 10] = [
     (
         b"open\nopen # \xFF\n",
         "line 2: byte 8 of the line is FF, which is not UTF-8",
@@ -244,6 +246,8 @@ const NEARLY_TEXT: [(&[u8], &str); 8] = [
     (b"\xFE\xFF\0o\0p\0e\0n", UTF_16),
     (b"o\0p\0e\0n\0", UTF_16),
     (b"\0o\0p\0e\0n", UTF_16),
+    (b"\xFF\xFE\0\0o\0\0\0p\0\0\0", UTF_32),
+    (b"\0\0\xFE\xFF\0\0\0o\0\0\0p", UTF_32),
 ];
 
 #[test]
@@ -252,6 +256,9 @@ fn what_is_nearly_text_is_told_so() {
         let mistake = as_deck(bytes, Form::Either).unwrap_err();
         assert!(mistake.starts_with(told), "{mistake}");
         assert_eq!(as_deck(bytes, Form::Binary), Ok(bytes.to_vec()));
+    }
+    for mark in [&b"\xFF\xFE\0\0"[..], b"\0\0\xFE\xFF"] {
+        assert_eq!(as_deck(mark, Form::Text).unwrap_err(), UTF_32);
     }
     let mistake = as_deck(b"open\nopen # \xFF\n", Form::Text).unwrap_err();
     assert!(mistake.starts_with("line 2: byte 8 of the line is FF, "));
@@ -358,11 +365,13 @@ fn words_are_cut_and_escaped_in_errors() {
 /// hides behind a comment.
 #[test]
 fn other_line_ends_are_told() {
-    for end in ["\r", "\u{2028}", "\u{2029}"] {
+    for end in ["\u{B}", "\u{C}", "\r", "\u{85}", "\u{2028}", "\u{2029}"] {
         let text = format!("issue 7\nissue 7 # new{end}withdraw 7\n");
         let mistake = assemble(&text).unwrap_err();
         assert_eq!(mistake.line, 2);
         assert!(mistake.reason.contains("within the line"), "{mistake}");
+        assert!(as_deck(text.as_bytes(), Form::Text).is_err());
+        assert!(as_deck(text.as_bytes(), Form::Either).is_err());
     }
     assert_eq!(assemble("issue 7\r\nopen\r\n"), assemble("issue 7\nopen\n"));
 }
