@@ -9,12 +9,8 @@ use std::path::{Path, PathBuf};
 fn main() {
     println!("cargo:rerun-if-env-changed=LAVROUDEM_ARCHIVE_DIR");
     let folder = archive_folder();
-    for name in NAMES {
-        println!(
-            "cargo:rerun-if-changed={}",
-            archive(&folder, name).display()
-        );
-    }
+    // The folder, since a file that is not there would count as changed each time.
+    println!("cargo:rerun-if-changed={}", folder.display());
     let name = match found(&folder) {
         Some(bytes) => own_copy(&bytes),
         None => {
