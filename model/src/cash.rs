@@ -25,14 +25,36 @@ pub fn width(sheet: &Sheet, tranche: usize) -> u128 {
     }
 }
 
-/// M(k): "slice loss" in document 01.
+/// Where the pool's loss ends beside a tranche: the three cases of T-03.
+#[derive(Clone, Copy, Debug, PartialEq, Eq)]
+pub enum LossCase {
+    Below,
+    Inside,
+    Above,
+}
+
+/// A loss that ends on a point of the tranche counts to the case under it.
+pub fn loss_case(loss: u128, lower: u128, upper: u128) -> LossCase {
+    if loss <= lower {
+        LossCase::Below
+    } else if loss <= upper {
+        LossCase::Inside
+    } else {
+        LossCase::Above
+    }
+}
+
+/// M(k): "slice loss" in document 01. The index loses what the pool loses.
 pub fn tranche_loss(sheet: &Sheet, tranche: usize, count: usize) -> u128 {
     let loss = pool_loss(sheet, count);
     if tranche == sheet.index() {
-        loss
-    } else {
-        let above_attachment = loss.saturating_sub(attachment(sheet, tranche));
-        above_attachment.min(width(sheet, tranche))
+        return loss;
+    }
+    let (lower, upper) = (attachment(sheet, tranche), detachment(sheet, tranche));
+    match loss_case(loss, lower, upper) {
+        LossCase::Below => 0,
+        LossCase::Inside => loss - lower,
+        LossCase::Above => width(sheet, tranche),
     }
 }
 

@@ -5,8 +5,8 @@ mod common;
 
 use common::{plain_sheet, B};
 use lavroudem_model::cash::{
-    default_payment, half, outstanding, pool_loss, premium_payment, premium_payment_over_b,
-    tranche_loss, width,
+    default_payment, half, loss_case, outstanding, pool_loss, premium_payment,
+    premium_payment_over_b, tranche_loss, width, LossCase,
 };
 use lavroudem_model::sheet::check;
 
@@ -45,6 +45,62 @@ fn losses_of_the_two_lowest_tranches() {
     // The seventh default eats through the boundary of the two.
     assert_eq!(default_payment(&sheet, 0, 6), 1_200_000);
     assert_eq!(default_payment(&sheet, 1, 6), 3_600_000);
+}
+
+/// The nominal columns of document 002, tables 2.2 and 2.3, in hundredths of
+/// a per cent. The second line for 12 defaults is read as 13.
+#[test]
+fn outstanding_as_the_tables_print_it() {
+    let sheet = plain_sheet(125, 1, 2);
+    let lowest = vec![300, 252, 204, 156, 108, 60, 12, 0];
+    let next = vec![
+        300, 300, 300, 300, 300, 300, 300, 264, 216, 168, 120, 72, 24, 0,
+    ];
+    for (tranche, printed) in [lowest, next].into_iter().enumerate() {
+        for (count, hundredths) in printed.into_iter().enumerate() {
+            let left: u128 = hundredths * 100_000;
+            assert_eq!(
+                outstanding(&sheet, tranche, count),
+                left,
+                "{tranche} {count}"
+            );
+        }
+    }
+}
+
+/// A loss on a point still has the case under it; each case is the clamped
+/// figure.
+#[test]
+fn losses_go_by_three_cases() {
+    use LossCase::{Above, Below, Inside};
+    let mut sheet = plain_sheet(1, 1, 1);
+    for (points, loss, case, lost) in [
+        ([30, 60], 0, Below, 0),
+        ([30, 60], 30, Below, 0),
+        ([30, 60], 31, Inside, 1),
+        ([30, 60], 60, Inside, 30),
+        ([30, 60], 61, Above, 30),
+        ([30, 60], B, Above, 30),
+        ([0, B], 0, Below, 0),
+        ([0, B], 1, Inside, 1),
+        ([0, B], B, Inside, B),
+        ([B - 1, B], B - 1, Below, 0),
+        ([B - 1, B], B, Inside, 1),
+        ([0, B - 1], B, Above, B - 1),
+    ] {
+        sheet.attachments = points.to_vec();
+        sheet.recovery = B - loss;
+        let [lower, upper] = points.map(u128::from);
+        let loss = u128::from(loss);
+        assert_eq!(pool_loss(&sheet, 1), loss);
+        assert_eq!(loss_case(loss, lower, upper), case, "{loss} of {points:?}");
+        assert_eq!(
+            tranche_loss(&sheet, 0, 1),
+            lost.into(),
+            "{loss} of {points:?}"
+        );
+        assert_eq!(loss.clamp(lower, upper) - lower, lost.into());
+    }
 }
 
 #[test]

@@ -1,12 +1,16 @@
 //! Holds `docs/PROMISES.md` to the tree: every cited file and name is there,
-//! every count is right, and the worked hedge has the model's figures.
+//! every count is right, and the amortisation and the worked hedge have the
+//! model's figures.
 
 mod arithmetic;
+mod common;
 mod definitions;
 
 use arithmetic::commas;
 use definitions::{counts, spec_files, Definitions, Key};
-use lavroudem_model::cash::{default_payment, half, outstanding, pool_loss, tranche_loss};
+use lavroudem_model::cash::{
+    default_payment, half, loss_case, outstanding, pool_loss, tranche_loss, LossCase,
+};
 use lavroudem_model::sheet::{Sheet, B};
 use lavroudem_model::tree::{
     default_leg, hedge_ratio, jump, net_value, premium_leg, ratio_in_millionths, roll_back, Rows,
@@ -206,6 +210,74 @@ fn table_of_definitions_is_whole() {
     println!("{sum}");
     assert!(missing.is_empty(), "the table lacks {missing:#?}");
     assert!(page.contains(&sum), "the page lacks \"{sum}\"");
+}
+
+// ---- the amortisation
+
+/// A pool of 125 with a recovery of 40 %, and tranches of 3 % each.
+fn amortised() -> Sheet {
+    let mut sheet = common::plain_sheet(125, 1, 2);
+    sheet.recovery = 400_000_000;
+    sheet.attachments = vec![0, 30_000_000, 60_000_000];
+    sheet
+}
+
+/// The case of a tranche, its loss and its outstanding nominal.
+fn amortised_cells(sheet: &Sheet, tranche: usize, count: usize) -> Vec<String> {
+    let [lower, upper] = [tranche, tranche + 1].map(|point| sheet.attachments[point].into());
+    let case = match loss_case(pool_loss(sheet, count), lower, upper) {
+        LossCase::Below => "below",
+        LossCase::Inside => "inside",
+        LossCase::Above => "above",
+    };
+    let figures = [tranche_loss, outstanding].map(|figure| figure(sheet, tranche, count));
+    let figures = figures.map(|figure| commas(figure as i128));
+    vec![case.into(), figures.join(" | ")]
+}
+
+#[test]
+fn amortisation_is_the_models() {
+    let sheet = amortised();
+    let page = page();
+    let percent = |point: usize| sheet.attachments[point] / 10_000_000;
+    let [low, middle, high] = [0, 1, 2].map(percent);
+    let of = |lower, upper| format!("{lower} to {upper} % | M, its loss | O, outstanding");
+    let header = format!(
+        "| Defaults | L, pool loss | {} | {} |",
+        of(low, middle),
+        of(middle, high)
+    );
+    let lines = page.lines().skip_while(|line| *line != header);
+    let rows: Vec<&str> = lines
+        .skip(2)
+        .take_while(|line| line.starts_with('|'))
+        .collect();
+    let right = |count: usize| {
+        let mut cells = vec![count.to_string(), commas(pool_loss(&sheet, count) as i128)];
+        cells.extend(amortised_cells(&sheet, 0, count));
+        cells.extend(amortised_cells(&sheet, 1, count));
+        format!("| {} |", cells.join(" | "))
+    };
+    let counts = [0, 1, 5, 6, 7, 12, 13, 125];
+    assert_eq!(rows, counts.map(right));
+    let paid = |tranche| commas(default_payment(&sheet, tranche, 6) as i128);
+    let (names, recovered) = (sheet.names, sheet.recovery / 10_000_000);
+    let cost = commas(pool_loss(&sheet, 1) as i128);
+    assert_on_page(&[
+        format!("A pool of {names} names with a recovery of {recovered} %."),
+        format!(
+            "costs it {} % of one name in {names}, {cost} units; ",
+            100 - recovered
+        ),
+        format!("{} units are 1 % of the pool.", commas(B as i128 / 100)),
+        format!("The tranche from {low} to {middle} % is the first to lose;"),
+        format!("the one from {middle} to {high} % loses once {middle} % are gone."),
+        format!(
+            "The seventh default takes {} units from the first tranche, its last, ",
+            paid(0)
+        ),
+        format!("and {} from the second.", paid(1)),
+    ]);
 }
 
 // ---- the worked hedge

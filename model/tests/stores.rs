@@ -3,6 +3,9 @@
 //! nothing in between is seen in the code. One function stores, one byte, once;
 //! issue and withdraw call it only where they accept; every other function that
 //! may write a register hands it on.
+//!
+//! Nor does a contract say in which form a figure is worked out: that a
+//! tranche's loss has three cases, and stands in one function.
 
 use std::collections::BTreeSet;
 use std::fs;
@@ -314,6 +317,37 @@ fn opened(words: &[String], place: usize) -> usize {
 }
 
 // ---- what is held
+
+/// The loss of a tranche, by cases as T-03 has it, and the functions that take
+/// it from there.
+const LOSS: (&str, &str) = (
+    "cash/src/lib.rt: tranche_loss",
+    "if loss <= lower {
+         0
+     } else if loss <= upper {
+         loss - lower
+     } else {
+         upper - lower
+     }",
+);
+const LOSES: [&str; 3] = [
+    "cash/src/lib.rt: tranche_outstanding",
+    "tables/src/lib.rt: payment_row",
+    "tranches/src/lib.rt: loss_at",
+];
+
+#[test]
+fn tranche_loss_has_three_cases() {
+    let functions = functions();
+    assert_eq!(function(&functions, LOSS.0).body, words(LOSS.1));
+    let takes = |it: &&Function| it.body.iter().any(|word| word == "tranche_loss");
+    let takers: Vec<&str> = functions
+        .iter()
+        .filter(takes)
+        .map(|it| it.place.as_str())
+        .collect();
+    assert_eq!(takers, LOSES);
+}
 
 /// What a program's input is read into.
 const READS: (&str, &str) = ("listing/src/main.rt: read_all", "input");

@@ -1,11 +1,13 @@
 -- Laws of losses and outstanding nominal.
 use Prim.Native.Nat.{ℕ, zero, suc, _+_, _-_, _*_, _/_, _≤_, _<_, min}
-use mathlib.Core.Path.{_≡_, _∙_, ap, ap₂}
+use mathlib.Core.Path.{_≡_, _∙_, refl, ap, ap₂}
+use mathlib.Core.Bool.{Bool, true, false, cond, not}
+use lib.Dec.{T, leb, leb→le, nleb→lt}
 use native.Mathlib.Nat.{le-refl, le-step, le-of-lt, le-trans, mul-le-mul-left, mul-le-mul-right, div-le-of-le-mul, zero-mul, zero-div, sub-le, le-div-iff-mul-le, div-mul-le-self}
 use native.Mathlib.Omega.{arith}
 use Rattle.cash.specs.Units.{B}
 use Rattle.cash.specs.Sums.{sumTo, Rising}
-use Rattle.cash.specs.Losses.{poolLoss, trancheLoss, trancheOutstanding, indexOutstanding, premiumPayment}
+use Rattle.cash.specs.Losses.{poolLoss, trancheLoss, clampedLoss, CasesClamp, trancheOutstanding, indexOutstanding, premiumPayment}
 use Rattle.cash.proofs.Rounding.{half-most}
 use Rattle.cash.proofs.Sums.{rises, widths-add, sum-sub}
 
@@ -29,27 +31,60 @@ pool-loss-none names recovery = ap (λ y. y / names) (zero-mul (B - recovery)) �
 
 -- ---- a tranche
 
-pub tranche-loss-rises : (lower upper x y : ℕ) → x ≤ y → trancheLoss lower upper x ≤ trancheLoss lower upper y
+-- a tranche from 30 to 60: below up to 30, inside up to 60, above beyond
+record LossCases : Type 0 where
+  nothing : trancheLoss 30 60 0 ≡ 0
+  lower-point : trancheLoss 30 60 30 ≡ 0
+  above-lower : trancheLoss 30 60 31 ≡ 1
+  upper-point : trancheLoss 30 60 60 ≡ 30
+  above-upper : trancheLoss 30 60 61 ≡ 30
+  pool : trancheLoss 30 60 1_000_000_000 ≡ 30
+
+loss-cases : LossCases
 unfolding trancheLoss
-tranche-loss-rises lower upper x y h = omega arith
+loss-cases =
+    record {
+      nothing = refl;
+      lower-point = refl;
+      above-lower = refl;
+      upper-point = refl;
+      above-upper = refl;
+      pool = refl;
+    }
+
+-- the three cases give the clamped figure; the laws below go by that
+pub cases-clamp : CasesClamp
+unfolding trancheLoss clampedLoss
+cases-clamp lower upper loss =
+    go (leb loss lower) (leb loss upper) (leb→le loss lower) (nleb→lt loss lower) (leb→le loss upper) (nleb→lt loss upper)
+  where
+    go : (low high : Bool) → (T low → loss ≤ lower) → (T (not low) → lower < loss) → (T high → loss ≤ upper) → (T (not high) → upper < loss)
+        → cond low 0 (cond high (loss - lower) (upper - lower)) ≡ min (loss - lower) (upper - lower)
+    go true high below p q r = omega (arith, below tt)
+    go false true p from inside q = omega (arith, from tt, inside tt)
+    go false false p from q above = omega (arith, from tt, above tt)
+
+pub tranche-loss-rises : (lower upper x y : ℕ) → x ≤ y → trancheLoss lower upper x ≤ trancheLoss lower upper y
+unfolding clampedLoss
+tranche-loss-rises lower upper x y h = omega (arith, cases-clamp lower upper x, cases-clamp lower upper y)
 
 pub tranche-loss-most : (lower upper x : ℕ) → trancheLoss lower upper x ≤ upper - lower
-unfolding trancheLoss
-tranche-loss-most lower upper x = omega arith
+unfolding clampedLoss
+tranche-loss-most lower upper x = omega (arith, cases-clamp lower upper x)
 
 pub tranche-loss-none : (lower upper : ℕ) → trancheLoss lower upper 0 ≡ 0
-unfolding trancheLoss
-tranche-loss-none lower upper = omega arith
+unfolding clampedLoss
+tranche-loss-none lower upper = omega (arith, cases-clamp lower upper 0)
 
 -- a tranche from 0 on that reaches as far as the loss loses all of it
 pub tranche-loss-whole : (upper x : ℕ) → x ≤ upper → trancheLoss 0 upper x ≡ x
-unfolding trancheLoss
-tranche-loss-whole upper x h = omega arith
+unfolding clampedLoss
+tranche-loss-whole upper x h = omega (arith, cases-clamp 0 upper x)
 
 -- the loss below the upper point is the tranche's and the loss below the lower one
 loss-between : (lower upper x : ℕ) → lower ≤ upper → trancheLoss lower upper x + min x lower ≡ min x upper
-unfolding trancheLoss
-loss-between lower upper x h = omega arith
+unfolding clampedLoss
+loss-between lower upper x h = omega (arith, cases-clamp lower upper x)
 
 -- tranches side by side lose what the tranche spanning them loses
 pub losses-add : (r : ℕ) (c : ℕ → ℕ) → Rising r c → (x : ℕ) → sumTo r (λ j. trancheLoss (c j) (c (suc j)) x) ≡ trancheLoss (c 0) (c r) x

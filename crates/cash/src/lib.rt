@@ -40,17 +40,18 @@ pub fn pool_loss(names: usize, recovery: u64, count: usize) -> u64
     (count as u64) * (UNITS - recovery) / (names as u64)
 }
 
-// M, the part of a pool loss that falls between two attachment points.
+// M, the part of a pool loss that falls between two attachment points. The loss ends below the tranche, inside it, or above it.
 pub fn tranche_loss(lower: u64, upper: u64, loss: u64) -> u64
     requires { ⌜ lower ≤ upper ⌝ }
     ensures { λ r. ⌜ r ≡ trancheLoss lower upper loss ⌝ }
 {
     if loss <= lower {
-        return 0;
+        0
+    } else if loss <= upper {
+        loss - lower
+    } else {
+        upper - lower
     }
-    let above = loss - lower;
-    let width = upper - lower;
-    if above <= width { above } else { width }
 }
 
 // O of a tranche, its width less its loss.

@@ -3,7 +3,7 @@
 use super::worked::{figure, rows_at};
 use super::{between, blocks, cells, ensure, same, says, section, table, Found};
 use crate::arithmetic::{commas, work_out, Ratio};
-use crate::common::Random;
+use crate::common::{plain_sheet, Random};
 use lavroudem_model::cash::{half, outstanding, pool_loss, premium_payment, tranche_loss, width};
 use lavroudem_model::sheet::{Sheet, B};
 use lavroudem_model::tree::{
@@ -102,12 +102,29 @@ impl Scene<'_> {
     }
 }
 
+/// Pools whose one name loses as much as an attachment point, or a unit less
+/// or more.
+fn losses_beside_points() -> Vec<Sheet> {
+    let plain = plain_sheet(1, 1, 2);
+    let losses = plain.attachments[1..]
+        .iter()
+        .flat_map(|point| [point - 1, *point, point + 1]);
+    let sheet = |loss| Sheet {
+        recovery: (B - u128::from(loss)) as u64,
+        ..plain.clone()
+    };
+    losses.map(sheet).collect()
+}
+
 /// Runs a check at every tranche and count of some sheets, with their rows at
 /// every position.
 fn everywhere(check: &dyn Fn(Scene) -> Found) -> Found {
     let mut random = Random::new(14);
-    for (names, steps, tranches) in [(1, 1, 1), (2, 5, 1), (3, 4, 2), (4, 3, 3)] {
-        let sheet = random.sheet(names, steps, tranches);
+    let sizes = [(1, 1, 1), (2, 5, 1), (3, 4, 2), (4, 3, 3)];
+    let mut sheets = sizes.map(|(n, m, r)| random.sheet(n, m, r)).to_vec();
+    sheets.extend(losses_beside_points());
+    for sheet in sheets {
+        let (names, steps, tranches) = (sheet.names, sheet.steps, sheet.tranches);
         for position in 0..=steps {
             let rows = rows_at(&sheet, position);
             for node in 0..(tranches + 1) * (names + 1) {
@@ -150,14 +167,29 @@ pub fn loss_formulas_are_the_models(page: &str) -> Found {
             "L(k)",
         )?;
         same(scene.work_out(size)?, most, "width")?;
-        let lost = match lost.strip_suffix(", but never below 0 or above the width") {
-            Some(text) => scene.work_out(text)?.clamp(0, most),
-            None => scene.work_out(lost)?,
+        let lost = if of_index {
+            scene.work_out(lost)?
+        } else {
+            by_cases(&scene, lost)?
         };
         same(lost, tranche_loss(sheet, tranche, count) as i128, "M(k)")?;
         let right = outstanding(sheet, tranche, count) as i128;
         same(scene.work_out(left)?, right, "O(k)")
     })
+}
+
+/// `FIGURE if LESS ≤ MORE; else FIGURE if LESS ≤ MORE; else FIGURE`.
+fn by_cases(scene: &Scene, cases: &str) -> Result<i128, String> {
+    for case in cases.split("; else ") {
+        let Some((figure, test)) = case.split_once(" if ") else {
+            return scene.work_out(case);
+        };
+        let (less, more) = test.split_once(" ≤ ").ok_or(format!("no test: {test}"))?;
+        if scene.work_out(less)? <= scene.work_out(more)? {
+            return scene.work_out(figure);
+        }
+    }
+    Err(format!("no case holds: {cases}"))
 }
 
 pub fn half_is_the_models(page: &str) -> Found {

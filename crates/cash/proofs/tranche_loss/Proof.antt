@@ -1,27 +1,28 @@
 -- `cash::tranche_loss` meets its contract.
 use borrow.Author.Needs.{needs}
 use native.Mathlib.Omega.{arith}
-use Rattle.cash.specs.Losses.{trancheLoss}
+use Rattle.cash.specs.Losses.{clampedLoss}
+use Rattle.cash.proofs.Losses.{cases-clamp}
 use Rattle.cash.proofs.tranche_loss.Statement.{statement}
 use Rattle.cash.proofs.tranche_loss.Tie as tie
 
+sub-result : tie.Need-sub-result
+sub-result c = search needs
+
+sub-result-2 : tie.Need-sub-result-2
+sub-result-2 c = search needs
+
 returns : tie.Need-returns
-unfolding trancheLoss
-returns c = omega arith
-
-sub-above : tie.Need-sub-above
-sub-above c = search needs
-
-sub-width : tie.Need-sub-width
-sub-width c = search needs
+unfolding clampedLoss
+returns c = let a = c .before .args in omega (arith, cases-clamp (a .lower) (a .upper) (a .loss))
 
 returns-2 : tie.Need-returns-2
-unfolding trancheLoss
-returns-2 c = omega arith
+unfolding clampedLoss
+returns-2 c = let a = c .before .before .args in omega (arith, cases-clamp (a .lower) (a .upper) (a .loss))
 
 returns-3 : tie.Need-returns-3
-unfolding trancheLoss
-returns-3 c = omega arith
+unfolding clampedLoss
+returns-3 c = let a = c .before .before .args in omega (arith, cases-clamp (a .lower) (a .upper) (a .loss))
 
 pub tranche-loss-spec : {M : Type 1} → statement M
-tranche-loss-spec = tie.close (tie.spec returns sub-above sub-width returns-2 returns-3)
+tranche-loss-spec = tie.close (tie.spec sub-result sub-result-2 returns returns-2 returns-3)
