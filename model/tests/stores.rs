@@ -318,8 +318,7 @@ fn opened(words: &[String], place: usize) -> usize {
 
 // ---- what is held
 
-/// The loss of a tranche, by cases as T-03 has it, and the functions that take
-/// it from there.
+/// The loss of a tranche, by cases as T-03 has it.
 const LOSS: (&str, &str) = (
     "cash/src/lib.rt: tranche_loss",
     "if loss <= lower {
@@ -330,7 +329,9 @@ const LOSS: (&str, &str) = (
          upper - lower
      }",
 );
-const LOSES: [&str; 3] = [
+
+/// The functions that take it from there.
+const LOSS_TAKERS: [&str; 3] = [
     "cash/src/lib.rt: tranche_outstanding",
     "tables/src/lib.rt: payment_row",
     "tranches/src/lib.rt: loss_at",
@@ -346,7 +347,7 @@ fn tranche_loss_has_three_cases() {
         .filter(takes)
         .map(|it| it.place.as_str())
         .collect();
-    assert_eq!(takers, LOSES);
+    assert_eq!(takers, LOSS_TAKERS);
 }
 
 /// What a program's input is read into.

@@ -1,5 +1,4 @@
 -- `cash::tranche_loss` meets its contract.
-use borrow.Author.Needs.{needs}
 use native.Mathlib.Omega.{arith}
 use Rattle.cash.specs.Losses.{clampedLoss}
 use Rattle.cash.proofs.Losses.{cases-clamp}
@@ -7,10 +6,10 @@ use Rattle.cash.proofs.tranche_loss.Statement.{statement}
 use Rattle.cash.proofs.tranche_loss.Tie as tie
 
 sub-result : tie.Need-sub-result
-sub-result c = search needs
+sub-result c = omega arith
 
 sub-result-2 : tie.Need-sub-result-2
-sub-result-2 c = search needs
+sub-result-2 c = omega arith
 
 returns : tie.Need-returns
 unfolding clampedLoss
