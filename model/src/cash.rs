@@ -1,4 +1,5 @@
-//! Rounding, losses and payments (document 01, "Arithmetic and cash").
+//! Rounding, losses, recoveries and payments (document 01, "Arithmetic and
+//! cash", and T-12).
 //!
 //! Nothing here knows about rows or about the direction of a walk. Every
 //! function takes a sheet that passed its checks.
@@ -58,15 +59,31 @@ pub fn tranche_loss(sheet: &Sheet, tranche: usize, count: usize) -> u128 {
     }
 }
 
-/// O(k): the notional that still earns premium.
-pub fn outstanding(sheet: &Sheet, tranche: usize, count: usize) -> u128 {
+/// Z(k): what has been recovered of `count` defaults (T-12).
+pub fn recovered(sheet: &Sheet, count: usize) -> u128 {
+    count as u128 * u128::from(sheet.recovery) / sheet.names as u128
+}
+
+/// What recoveries take off a tranche, or off the index: they start at the
+/// senior end, so all that lies above a tranche goes before it.
+pub fn tranche_recovery(sheet: &Sheet, tranche: usize, count: usize) -> u128 {
+    let all = recovered(sheet, count);
     if tranche == sheet.index() {
-        // A default takes the whole name out of the index, its recovered
-        // part too, so this is not the notional less the loss.
-        B - count as u128 * B / sheet.names as u128
-    } else {
-        width(sheet, tranche) - tranche_loss(sheet, tranche, count)
+        return all;
     }
+    let senior = B - detachment(sheet, tranche);
+    all.saturating_sub(senior).min(width(sheet, tranche))
+}
+
+/// O(k): the notional that still earns premium. Losses take it from below,
+/// recoveries from above.
+pub fn outstanding(sheet: &Sheet, tranche: usize, count: usize) -> u128 {
+    let whole = if tranche == sheet.index() {
+        B
+    } else {
+        width(sheet, tranche)
+    };
+    whole - tranche_loss(sheet, tranche, count) - tranche_recovery(sheet, tranche, count)
 }
 
 /// Default cash: paid by the step that takes `count` to `count + 1`.

@@ -219,15 +219,17 @@ fn fill_payments(sheet: &Sheet, losses: &[u64; ROOM], paid: &mut [u64; ROOM]) {
 /// What is outstanding, for a walk that meets a premium date.
 fn fill_outstanding(sheet: &Sheet, losses: &[u64; ROOM], left: &mut [u64; ROOM]) {
     let counts = sheet.names + 1;
-    for tranche in 0..sheet.tranches {
-        let width = width(sheet, tranche);
-        for place in tranche * counts..(tranche + 1) * counts {
-            left[place] = width - losses[place];
+    let pool_losses = &losses[sheet.tranches * counts..][..counts];
+    let (tranches, index) = left.split_at_mut(sheet.tranches * counts);
+    let points = sheet.attachments.windows(2);
+    for (k, &loss) in pool_losses.iter().enumerate() {
+        // the pool is left between what is lost and what is recovered
+        let end = B - k as u64 * sheet.recovery / sheet.names as u64;
+        index[k] = end - loss;
+        let rows = tranches.chunks_exact_mut(counts).zip(points.clone());
+        for (row, points) in rows {
+            row[k] = points[1].min(end).saturating_sub(points[0].max(loss));
         }
-    }
-    let index = &mut left[sheet.tranches * counts..][..counts];
-    for (k, left) in index.iter_mut().enumerate() {
-        *left = B - k as u64 * B / sheet.names as u64;
     }
 }
 

@@ -1,7 +1,8 @@
 //! Reference model of the tranche valuation engine.
 //!
-//! Written from document 01 alone, so that it can bear witness about the
-//! engine. It prefers wide integers and fresh vectors to speed.
+//! Written from document 01 and the requests that changed it alone, so that
+//! it can bear witness about the engine. It prefers wide integers and fresh
+//! vectors to speed.
 //!
 //! - [`refusal`]: the reasons a call can be turned down
 //! - [`sheet`]: what the desk brings, and the checks on it

@@ -123,6 +123,56 @@ fn losses_are_rounded_down() {
     assert_eq!(outstanding(&sheet, index, 3), 0);
 }
 
+/// T-12: by recovery and count, what is left of a pool of three: of two tranches
+/// from 0 to B, and of the index. With a recovery of B a default costs nothing
+/// and takes the whole name off the top.
+const LEFT_OF_THREE: [(u64, [[u128; 3]; 4]); 3] = [
+    (
+        350_000_000,
+        [
+            [300_000_000, 700_000_000, 1_000_000_000],
+            [83_333_334, 583_333_334, 666_666_668],
+            [0, 333_333_334, 333_333_334],
+            [0, 0, 0],
+        ],
+    ),
+    (
+        0,
+        [
+            [300_000_000, 700_000_000, 1_000_000_000],
+            [0, 666_666_667, 666_666_667],
+            [0, 333_333_334, 333_333_334],
+            [0, 0, 0],
+        ],
+    ),
+    (
+        1_000_000_000,
+        [
+            [300_000_000, 700_000_000, 1_000_000_000],
+            [300_000_000, 366_666_667, 666_666_667],
+            [300_000_000, 33_333_334, 333_333_334],
+            [0, 0, 0],
+        ],
+    ),
+];
+
+#[test]
+fn recoveries_come_off_the_top() {
+    let mut sheet = plain_sheet(3, 1, 2);
+    sheet.attachments = vec![0, 300_000_000, B];
+    for (recovery, left) in LEFT_OF_THREE {
+        sheet.recovery = recovery;
+        for (count, right) in left.into_iter().enumerate() {
+            let left = [0, 1, 2].map(|tranche| outstanding(&sheet, tranche, count));
+            assert_eq!(left, right, "recovery {recovery}, count {count}");
+        }
+    }
+    // Where they meet in the middle, the second default reaches below the top.
+    sheet.attachments = vec![0, 500_000_000, B];
+    assert_eq!(outstanding(&sheet, 0, 2), 333_333_334);
+    assert_eq!(outstanding(&sheet, 1, 2), 0);
+}
+
 #[test]
 fn index_loses_the_pool_loss() {
     let sheet = plain_sheet(125, 1, 2);
@@ -141,8 +191,8 @@ fn premium_is_accrual_times_outstanding() {
     let mut sheet = plain_sheet(2, 2, 1);
     sheet.attachments = vec![0, B];
     sheet.accruals = vec![0, 1];
-    // O(0) is B, O(1) is 700000000 and O(2) is 400000000.
-    assert_eq!(premium_payment_over_b(&sheet, 0, 2, 1), 700_000_000);
+    // O(0) is B, O(1) is 500000000 and O(2) is 0.
+    assert_eq!(premium_payment_over_b(&sheet, 0, 2, 1), 500_000_000);
     assert_eq!(premium_payment(&sheet, 0, 2, 0), 1);
     assert_eq!(premium_payment(&sheet, 0, 2, 1), 1);
     assert_eq!(premium_payment(&sheet, 0, 2, 2), 0);

@@ -4,7 +4,7 @@
 mod common;
 
 use common::{plain_sheet, spanning_sheet, Random, B};
-use lavroudem_model::cash::{default_payment, premium_payment_over_b};
+use lavroudem_model::cash::{default_payment, outstanding, premium_payment_over_b};
 use lavroudem_model::exact::{self, Move};
 use lavroudem_model::natural::Natural;
 use lavroudem_model::sheet::{check, Sheet};
@@ -149,19 +149,19 @@ fn distances_can_nearly_be_reached() {
     );
 
     let mut sheet = plain_sheet(2, 1, 1);
-    sheet.recovery = B - 4;
-    sheet.attachments = vec![0, B - 1];
+    sheet.recovery = 0;
+    sheet.attachments = vec![2, B - 1];
     sheet.hazards = vec![B / 2, 0];
-    sheet.discounts = vec![B - 1];
+    sheet.discounts = vec![B - 4];
     sheet.accruals = vec![B / 2];
     assert_eq!(check(&sheet), Ok(()));
     let rows = &rows_by_position(&sheet)[0];
     let exact = exact::premium_leg(&sheet, 0, 0, 0);
     let off = doubled_distance(premium_leg(&sheet, rows, 0, 0), &exact, &denominator);
-    // 1.499999999 of the one and a half units allowed.
+    // 1.499999996 of the one and a half units allowed.
     assert_eq!(
         off,
-        Natural::new(2_999_999_998).times(&Natural::power_of_b(2))
+        Natural::new(2_999_999_992).times(&Natural::power_of_b(2))
     );
 }
 
@@ -250,6 +250,37 @@ fn tranches_add_to_the_one_that_spans_them() {
                 let whole = premium_leg(&span, &span_rows[position], 0, count);
                 assert!(2 * premium.abs_diff(whole) <= (parts * premium_limit) as u128);
                 rounded_sums_differ += usize::from(premium != whole);
+            }
+        }
+    }
+    assert!(rounded_sums_differ > 100);
+}
+
+/// T-12: where the points run from 0 to B, the premiums of the tranches add to
+/// those of the index: what they are paid on and exact values exactly, the rows
+/// within (r + 1) distances.
+#[test]
+fn tranches_of_the_whole_pool_add_to_the_index() {
+    let mut rounded_sums_differ = 0;
+    for mut sheet in trees() {
+        sheet.attachments[0] = 0;
+        sheet.attachments[sheet.tranches] = B;
+        assert_eq!(check(&sheet), Ok(()));
+        let index = sheet.index();
+        for (position, rows) in rows_by_position(&sheet).iter().enumerate() {
+            let (_, limit) = doubled_limits(&sheet, position);
+            for count in 0..=sheet.names {
+                let sum = |figure: &dyn Fn(usize) -> u128| (0..index).map(figure).sum::<u128>();
+                let left = |tranche| outstanding(&sheet, tranche, count);
+                assert_eq!(sum(&left), left(index));
+                let exactly = |tranche| exact::premium_leg(&sheet, position, tranche, count);
+                let exact_sum = (0..index).map(exactly);
+                let exact_sum = exact_sum.fold(Natural::zero(), |sum, leg| sum.plus(&leg));
+                assert_eq!(exact_sum, exactly(index));
+                let leg = |tranche| premium_leg(&sheet, rows, tranche, count);
+                let apart = 2 * sum(&leg).abs_diff(leg(index));
+                assert!(apart <= ((index + 1) * limit) as u128);
+                rounded_sums_differ += usize::from(apart > 0);
             }
         }
     }

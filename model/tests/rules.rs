@@ -43,6 +43,7 @@ checks! {
     phrases_stand_on_it;
     worked_deck_is_described;
     three_names_are_described;
+    whole_pool_is_described;
     refusals_are_the_models;
     named_refusals_are_the_models;
     commands_are_the_models;
@@ -179,6 +180,10 @@ const PHRASES: &[&str] = &[
     "| D in the rows | its exact value | h |\n| A in the rows | its exact value | h + q/2 |\n",
     "| the sum of D over tranches 0 to r - 1, at each count | D of the tranche that spans them | (r + 1) × h |",
     "| the sum of A over tranches 0 to r - 1, at each count | A of the tranche that spans them | (r + 1) × (h + q/2) |",
+    "| the same sum, if the tranches are the whole pool | A of the index in the same rows | (r + 1) × (h + q/2) |",
+    "The tranches are the whole pool if their attachment points run from 0 to B. Then their O(k) add to that of the index,",
+    "Where the tranches are the whole pool, their exact A add to that of the index, without a distance.",
+    "which leaves it less than two units too high",
     "refused where x is 0 (`15 flat hedge`), and where t is at least 1,000,000 × x (`16 off scale`)",
     "the chances of 0 to n defaults,",
     "fills it for step i, 0 to m:",

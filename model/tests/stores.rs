@@ -330,9 +330,10 @@ const LOSS: (&str, &str) = (
      }",
 );
 
-/// The functions that take it from there.
-const LOSS_TAKERS: [&str; 3] = [
-    "cash/src/lib.rt: tranche_outstanding",
+/// The functions that take it from there; a recovery is a loss from the top.
+const LOSS_TAKERS: [&str; 4] = [
+    "cash/src/lib.rt: left_to_lose",
+    "cash/src/lib.rt: tranche_recovery",
     "tables/src/lib.rt: payment_row",
     "tranches/src/lib.rt: loss_at",
 ];

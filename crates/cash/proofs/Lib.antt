@@ -2,6 +2,7 @@ pub mod Nearness
 pub mod Rounding
 pub mod Sums
 pub mod Losses
+pub mod Recoveries
 pub mod Machine
 pub mod Signs
 pub mod Meant

@@ -1,20 +1,20 @@
 -- Laws of losses and outstanding nominal.
-use Prim.Native.Nat.{ℕ, zero, suc, _+_, _-_, _*_, _/_, _≤_, _<_, min}
-use mathlib.Core.Path.{_≡_, _∙_, refl, ap, ap₂}
+use Prim.Native.Nat.{ℕ, zero, suc, _+_, _-_, _/_, _≤_, _<_, min}
+use mathlib.Core.Path.{_≡_, _∙_, refl, ap}
 use mathlib.Core.Bool.{Bool, true, false, cond, not}
 use lib.Dec.{T, leb, leb→le, nleb→lt}
-use native.Mathlib.Nat.{le-refl, le-step, le-of-lt, le-trans, mul-le-mul-left, mul-le-mul-right, div-le-of-le-mul, zero-mul, zero-div, sub-le, le-div-iff-mul-le, div-mul-le-self}
+use native.Mathlib.Nat.{le-refl, le-step, le-of-lt, le-trans, mul-le-mul-left, mul-le-mul-right, div-le-of-le-mul, zero-mul, zero-div, le-div-iff-mul-le, div-mul-le-self}
 use native.Mathlib.Omega.{arith}
 use Rattle.cash.specs.Units.{B}
 use Rattle.cash.specs.Sums.{sumTo, Rising}
-use Rattle.cash.specs.Losses.{poolLoss, trancheLoss, clampedLoss, CasesClamp, trancheOutstanding, indexOutstanding, premiumPayment}
+use Rattle.cash.specs.Losses.{poolLoss, trancheLoss, clampedLoss, CasesClamp, premiumPayment}
 use Rattle.cash.proofs.Rounding.{half-most}
-use Rattle.cash.proofs.Sums.{rises, widths-add, sum-sub}
+use Rattle.cash.proofs.Sums.{rises}
 
 -- ---- the pool
 
 -- a share of more is more
-share-rises : (d x y : ℕ) → 0 < d → x ≤ y → x / d ≤ y / d
+pub share-rises : (d x y : ℕ) → 0 < d → x ≤ y → x / d ≤ y / d
 share-rises d x y p h = le-div-iff-mul-le p .1 (le-trans (div-mul-le-self x d) h)
 
 pub pool-loss-rises : (names recovery k : ℕ) → 0 < names → poolLoss names recovery k ≤ poolLoss names recovery (suc k)
@@ -92,31 +92,6 @@ unfolding sumTo
 losses-add zero c h x = omega (arith, loss-between (c 0) (c 0) x (le-refl _))
 losses-add (suc r) c h x =
     omega (arith, losses-add r c (λ j l. h j (le-step l)) x, loss-between (c 0) (c r) x (rises r c (λ j l. h j (le-step l))), loss-between (c r) (c (suc r)) x (le-of-lt (h r (le-refl (suc r)))), loss-between (c 0) (c (suc r)) x (rises (suc r) c h))
-
-pub outstanding-falls : (lower upper x y : ℕ) → x ≤ y → trancheOutstanding lower upper y ≤ trancheOutstanding lower upper x
-unfolding trancheOutstanding
-outstanding-falls lower upper x y h = omega (arith, tranche-loss-rises lower upper x y h)
-
-pub outstanding-most : (lower upper x : ℕ) → upper ≤ B → trancheOutstanding lower upper x ≤ B
-unfolding trancheOutstanding
-outstanding-most lower upper x h = omega arith
-
--- as much is outstanding of tranches side by side as of the tranche spanning them
-pub outstandings-add : (r : ℕ) (c : ℕ → ℕ) → Rising r c → (x : ℕ) → sumTo r (λ j. trancheOutstanding (c j) (c (suc j)) x) ≡ trancheOutstanding (c 0) (c r) x
-unfolding trancheOutstanding
-outstandings-add r c h x =
-    sum-sub r (λ j. c (suc j) - c j) (λ j. trancheLoss (c j) (c (suc j)) x) (λ j l. tranche-loss-most (c j) (c (suc j)) x)
-    ∙ ap₂ (λ a b. a - b) (widths-add r c h) (losses-add r c h x)
-
--- ---- the index
-
-pub index-outstanding-falls : (names k : ℕ) → 0 < names → indexOutstanding names (suc k) ≤ indexOutstanding names k
-unfolding indexOutstanding
-index-outstanding-falls names k p = omega (arith, share-rises names (k * B) (suc k * B) p (omega arith))
-
-pub index-outstanding-most : (names k : ℕ) → indexOutstanding names k ≤ B
-unfolding indexOutstanding
-index-outstanding-most names k = sub-le _ _
 
 -- ---- payments
 

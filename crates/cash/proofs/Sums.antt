@@ -1,7 +1,8 @@
 -- Laws of sums.
 use Prim.Native.Nat.{ℕ, zero, suc, _+_, _-_, _*_, _≤_, _<_}
-use mathlib.Core.Path.{_≡_, refl, ap₂}
-use native.Mathlib.Nat.{le-refl, le-step}
+use mathlib.Core.Path.{_≡_, refl, ap, ap₂}
+use mathlib.Core.Logic.{_⊎_, inl, inr}
+use native.Mathlib.Nat.{le-refl, le-step, le-of-lt, le-trans, le-of-eq, eq-or-lt-of-le}
 use native.Mathlib.Omega.{arith}
 use Rattle.cash.specs.Near.{Near}
 use Rattle.cash.specs.Sums.{sumTo, Rising}
@@ -48,8 +49,19 @@ pub rises : (r : ℕ) (c : ℕ → ℕ) → Rising r c → c 0 ≤ c r
 rises zero c h = le-refl _
 rises (suc r) c h = omega (arith, rises r c (λ j l. h j (le-step l)), h r (le-refl (suc r)))
 
--- the steps of a rising list add to its whole rise
-pub widths-add : (r : ℕ) (c : ℕ → ℕ) → Rising r c → sumTo r (λ j. c (suc j) - c j) ≡ c r - c 0
+-- figures at rising points rise from any of them to the last
+pub up-to : (r : ℕ) (c : ℕ → ℕ) → Rising r c → (j : ℕ) → j ≤ r → c j ≤ c r
+up-to zero c h j l = le-of-eq (ap c (omega arith))
+up-to (suc r) c h j l = go (up-to r c (λ i p. h i (le-step p)) j) (eq-or-lt-of-le l)
+  where
+    go : (j ≤ r → c j ≤ c r) → (j ≡ suc r) ⊎ (j < suc r) → c j ≤ c (suc r)
+    go f (inl e) = le-of-eq (ap c e)
+    go f (inr g) = le-trans (f (omega arith)) (le-of-lt (h r (le-refl (suc r))))
+
+-- the rises of a figure from point to point add to its whole rise
+pub steps-add : (r : ℕ) (c : ℕ → ℕ) (f : ℕ → ℕ) → Rising r c → ((x y : ℕ) → x ≤ y → f x ≤ f y) → sumTo r (λ j. f (c (suc j)) - f (c j)) ≡ f (c r) - f (c 0)
 unfolding sumTo
-widths-add zero c h = omega arith
-widths-add (suc r) c h = omega (arith, widths-add r c (λ j l. h j (le-step l)), rises r c (λ j l. h j (le-step l)), h r (le-refl (suc r)))
+steps-add zero c f h up = omega arith
+steps-add (suc r) c f h up =
+    let lower : Rising r c = λ j l. h j (le-step l) in
+    omega (arith, steps-add r c f lower up, up (c 0) (c r) (rises r c lower), up (c r) (c (suc r)) (le-of-lt (h r (le-refl (suc r)))))

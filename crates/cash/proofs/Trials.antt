@@ -3,14 +3,14 @@ use mathlib.Core.Path.{_≡_, refl}
 use Prim.Native.Nat.{ℕ}
 use lib.IntN.{pos, negsuc}
 use Rattle.cash.specs.Units.{B, half}
-use Rattle.cash.specs.Losses.{poolLoss, trancheLoss, trancheOutstanding, indexOutstanding}
+use Rattle.cash.specs.Losses.{poolLoss, poolRecovery, trancheLoss, trancheRecovery, trancheOutstanding, indexOutstanding}
 use Rattle.cash.specs.declared.Node.{Node}
 use Rattle.cash.specs.declared.Hedge.the-variants.{Millionths, Flat, OffScale}
 use Rattle.cash.specs.Hedges.{withSign, millionths, netValue, changeOf, jumpOf, ratioOf, hedgeOf}
 
 -- what is left of a tranche of a pool of 125 with a recovery of 40 %
 left : ℕ → ℕ → ℕ → ℕ
-left lower upper k = trancheOutstanding lower upper (poolLoss 125 400_000_000 k)
+left lower upper k = trancheOutstanding lower upper (poolLoss 125 400_000_000 k) (poolRecovery 125 400_000_000 k)
 
 record Amortisation : Type 0 where
   equity-6 : left 0 30_000_000 6 ≡ 1_200_000
@@ -21,7 +21,7 @@ record Amortisation : Type 0 where
   next-13 : left 30_000_000 60_000_000 13 ≡ 0
 
 amortisation : Amortisation
-unfolding left trancheOutstanding trancheLoss poolLoss B
+unfolding left trancheOutstanding trancheLoss trancheRecovery poolLoss poolRecovery B
 amortisation = record { equity-6 = refl; equity-7 = refl; next-6 = refl; next-7 = refl; next-12 = refl; next-13 = refl }
 
 record Halves : Type 0 where
@@ -37,10 +37,10 @@ halves = record { below-half = refl; at-half = refl; below-next = refl; at-next 
 -- three names show what two hide: the shares of one name are rounded down
 record Thirds : Type 0 where
   loss : poolLoss 3 0 1 ≡ 333_333_333
-  index : indexOutstanding 3 1 ≡ 666_666_667
+  index : indexOutstanding (poolLoss 3 350_000_000 1) (poolRecovery 3 350_000_000 1) ≡ 666_666_668
 
 thirds : Thirds
-unfolding poolLoss indexOutstanding B
+unfolding poolLoss poolRecovery indexOutstanding B
 thirds = record { loss = refl; index = refl }
 
 -- the deck's tranche and index at the root, with no default and with one

@@ -1,5 +1,5 @@
 -- Losses, outstanding nominal and payments (document 01, 'Arithmetic and cash'). `-` stops at 0 and `/` rounds down.
-use Prim.Native.Nat.{ℕ, _-_, _*_, _/_, min}
+use Prim.Native.Nat.{ℕ, _+_, _-_, _*_, _/_, _≤_, min}
 use mathlib.Core.Bool.{cond}
 use mathlib.Core.Path.{_≡_}
 use lib.Dec.{leb}
@@ -25,13 +25,32 @@ clampedLoss lower upper loss = min (loss - lower) (upper - lower)
 abbrev pub CasesClamp : Type 0
 CasesClamp = (lower upper loss : ℕ) → trancheLoss lower upper loss ≡ clampedLoss lower upper loss
 
--- Outstanding O of the tranche: its width less its loss.
-unfoldable pub trancheOutstanding : ℕ → ℕ → ℕ → ℕ
-trancheOutstanding lower upper loss = (upper - lower) - trancheLoss lower upper loss
+-- What a tranche has left to lose: its width less its loss.
+unfoldable pub leftToLose : ℕ → ℕ → ℕ → ℕ
+leftToLose lower upper loss = (upper - lower) - trancheLoss lower upper loss
 
--- Outstanding O(k) of the index: a default removes the whole name, whatever is recovered of it.
+-- Recovered nominal Z(k): what is got back of k defaults among the names. (T-12, as all down to the index)
+unfoldable pub poolRecovery : ℕ → ℕ → ℕ → ℕ
+poolRecovery names recovery k = k * recovery / names
+
+-- What a recovery takes off a tranche. It starts at the top of the pool: what lies above the upper point goes first, then the tranche.
+unfoldable pub trancheRecovery : ℕ → ℕ → ℕ → ℕ
+trancheRecovery lower upper recovered = min (recovered - (B - upper)) (upper - lower)
+
+-- Outstanding O of the tranche: its width less its loss, from below, and less what a recovery takes off it, from above.
+unfoldable pub trancheOutstanding : ℕ → ℕ → ℕ → ℕ → ℕ
+trancheOutstanding lower upper loss recovered = (upper - lower) - trancheLoss lower upper loss - trancheRecovery lower upper recovered
+
+-- Outstanding O of the index: the pool less what is lost and what is recovered.
 unfoldable pub indexOutstanding : ℕ → ℕ → ℕ
-indexOutstanding names k = B - k * B / names
+indexOutstanding loss recovered = B - loss - recovered
+
+-- Every unit is outstanding, lost or recovered, so neither O stops at 0.
+pub record NominalKept : Type 0 where
+  pub pool : (names recovery k : ℕ) → recovery ≤ B → k ≤ names → poolLoss names recovery k + poolRecovery names recovery k ≤ B
+  pub tranche : (lower upper loss recovered : ℕ) → lower ≤ upper → upper ≤ B → loss + recovered ≤ B →
+      trancheOutstanding lower upper loss recovered + trancheLoss lower upper loss + trancheRecovery lower upper recovered ≡ upper - lower
+  pub index : (loss recovered : ℕ) → loss + recovered ≤ B → indexOutstanding loss recovered + loss + recovered ≡ B
 
 -- What a default pays that takes a loss from M(k) to M(k + 1).
 unfoldable pub defaultPayment : ℕ → ℕ → ℕ

@@ -1,11 +1,14 @@
 // The arithmetic layer: rounding, losses, payments, net values, jumps and the hedge ratio. It knows no walk and no register.
 ghost use mathlib.Core.Path.{_≡_};
-ghost use Prim.Native.Nat.{_≤_, _<_, _*_};
+ghost use Prim.Native.Nat.{_+_, _≤_, _<_, _*_};
 ghost use lib.IntN.{natAbs};
 ghost use Rattle.cash.specs.Units.{B};
 ghost use Rattle.cash.specs.Losses.{
   poolLoss,
   trancheLoss,
+  leftToLose,
+  poolRecovery,
+  trancheRecovery,
   trancheOutstanding,
   indexOutstanding,
   defaultPayment,
@@ -54,20 +57,44 @@ pub fn tranche_loss(lower: u64, upper: u64, loss: u64) -> u64
     }
 }
 
-// O of a tranche, its width less its loss.
-pub fn tranche_outstanding(lower: u64, upper: u64, loss: u64) -> u64
+// What a tranche has left to lose: its width less its loss.
+pub fn left_to_lose(lower: u64, upper: u64, loss: u64) -> u64
     requires { ⌜ lower ≤ upper ⌝ }
-    ensures { λ r. ⌜ r ≡ trancheOutstanding lower upper loss ⌝ }
+    ensures { λ r. ⌜ r ≡ leftToLose lower upper loss ⌝ }
 {
     upper - lower - tranche_loss(lower, upper, loss)
 }
 
-// O(k) of the index: a default removes the whole name.
-pub fn index_outstanding(names: usize, count: usize) -> u64
-    requires { ⌜ (0 < names) × (names ≤ 125) × (count ≤ names) ⌝ }
-    ensures { λ r. ⌜ r ≡ indexOutstanding names count ⌝ }
+// Z(k), what is got back of k defaults.
+pub fn pool_recovery(names: usize, recovery: u64, count: usize) -> u64
+    requires { ⌜ (0 < names) × (names ≤ 125) × (recovery ≤ B) × (count ≤ names) ⌝ }
+    ensures { λ r. ⌜ r ≡ poolRecovery names recovery count ⌝ }
 {
-    UNITS - (count as u64) * UNITS / (names as u64)
+    (count as u64) * recovery / (names as u64)
+}
+
+// What a recovery takes off a tranche. Seen from the top of the pool it is a loss.
+pub fn tranche_recovery(lower: u64, upper: u64, recovered: u64) -> u64
+    requires { ⌜ (lower ≤ upper) × (upper ≤ B) ⌝ }
+    ensures { λ r. ⌜ r ≡ trancheRecovery lower upper recovered ⌝ }
+{
+    tranche_loss(UNITS - upper, UNITS - lower, recovered)
+}
+
+// O of a tranche: what it has left to lose, less what a recovery takes off it.
+pub fn tranche_outstanding(lower: u64, upper: u64, loss: u64, recovered: u64) -> u64
+    requires { ⌜ (lower ≤ upper) × (upper ≤ B) × (loss + recovered ≤ B) ⌝ }
+    ensures { λ r. ⌜ r ≡ trancheOutstanding lower upper loss recovered ⌝ }
+{
+    left_to_lose(lower, upper, loss) - tranche_recovery(lower, upper, recovered)
+}
+
+// O of the index: the pool less what is lost and what is recovered.
+pub fn index_outstanding(loss: u64, recovered: u64) -> u64
+    requires { ⌜ loss + recovered ≤ B ⌝ }
+    ensures { λ r. ⌜ r ≡ indexOutstanding loss recovered ⌝ }
+{
+    UNITS - loss - recovered
 }
 
 // M(k + 1) - M(k), what a default pays.

@@ -61,7 +61,7 @@ fn any_over(
         let upper = tranches::upper_of(pool, attachments, j);
         let mut k = 0;
         while k <= names {
-            let left = cash::tranche_outstanding(lower, upper, losses[k]);
+            let left = cash::left_to_lose(lower, upper, losses[k]);
             if left < defaults[place] {
                 found = true;
                 break 'search;

@@ -1,6 +1,6 @@
 -- What opens when a deck is computed, under one name.
 use Rattle.cash.specs.Units.{B, half}
-use Rattle.cash.specs.Losses.{poolLoss, trancheLoss, trancheOutstanding, indexOutstanding, defaultPayment, premiumPayment}
+use Rattle.cash.specs.Losses.{poolLoss, poolRecovery, trancheLoss, trancheRecovery, trancheOutstanding, indexOutstanding, defaultPayment, premiumPayment}
 use Rattle.cash.specs.Hedges.{netValue, changeOf, jumpOf, withSign as signedOf, millionths, ratioOf}
 use Rattle.tree.specs.Backward.{rollNode, over}
 use Rattle.tree.specs.Legs.{defaultCash, premiumCash, mark}
@@ -10,6 +10,7 @@ use Rattle.tree.specs.Sheet.{
   discountOf,
   accrualOf,
   poolLossOf,
+  poolRecoveryOf,
   lossOf,
   widthOf,
   outstandingOf,
@@ -47,7 +48,7 @@ printed = tt
 
 -- losses and payments
 unfoldable paymentsComputed : Unit {0}
-unfolding B half poolLoss trancheLoss trancheOutstanding indexOutstanding defaultPayment premiumPayment
+unfolding B half poolLoss poolRecovery trancheLoss trancheRecovery trancheOutstanding indexOutstanding defaultPayment premiumPayment
 paymentsComputed = tt
 
 -- net value and hedge ratio
@@ -62,7 +63,7 @@ legsComputed = tt
 
 -- a sheet as a tree, and its rules
 unfoldable treeComputed : Unit {0}
-unfolding poolLossOf lossOf widthOf outstandingOf treeOf defaultOf premiumOf sumOf defaultMost premiumMost same outflow fromBelow pushed distribution
+unfolding poolLossOf poolRecoveryOf lossOf widthOf outstandingOf treeOf defaultOf premiumOf sumOf defaultMost premiumMost same outflow fromBelow pushed distribution
 treeComputed = tt
 
 -- rows

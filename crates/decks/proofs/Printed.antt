@@ -17,6 +17,7 @@ called =
       no-pool = refl;
       mixed = refl;
       one-step = refl;
+      topped = refl;
       empty = refl;
     }
 

@@ -5,7 +5,7 @@ use mathlib.Core.List.{List, [], _∷_, _++_}
 use lib.ListN.{length}
 use Rattle.listings.specs.Listing.{listing}
 use Rattle.decks.specs.Calls.{workedDeck, workedListing, unevenSheet, acceptedCalls, acceptedListing, refusedCalls, refusedListing}
-use Rattle.decks.specs.Calls.{noPoolDeck, noPoolListing, mixedDeck, mixedListing, oneStepDeck, oneStepListing}
+use Rattle.decks.specs.Calls.{noPoolDeck, noPoolListing, mixedDeck, mixedListing, oneStepDeck, oneStepListing, toppedDeck, toppedListing}
 use Rattle.decks.specs.Limits.{none, one, belowMillion, million, tenMillion, overTenMillion, billion, overBillion, single, coupon}
 use Rattle.decks.specs.Limits.{issueOpen, opening, opens, ratios, largestRatio, offScale, flatHedge, eightSlices, secondPool}
 use Rattle.decks.specs.Limits.{poolCutShort, secondPoolCutShort, nineCuts, tenthCut, tooManyCuts, hazardAndStep, nineCoupons}
@@ -20,6 +20,7 @@ pub record CallListings : Type 0 where
   pub no-pool : listing noPoolDeck ≡ noPoolListing
   pub mixed : listing mixedDeck ≡ mixedListing
   pub one-step : listing oneStepDeck ≡ oneStepListing
+  pub topped : listing toppedDeck ≡ toppedListing
   pub empty : listing [] ≡ []
 
 -- Refusals 2 to 8 by open: of the recovery, the cut, the hazard, the discount, the accrual, and the coupons of slice and index.

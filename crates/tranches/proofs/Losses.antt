@@ -9,12 +9,12 @@ use native.Mathlib.Decide.{decLt}
 use lib.ListN.{length, getD}
 use borrow.Author.Tests.{lt-ltb, le-ltb}
 use Rattle.cash.specs.Units.{B}
-use Rattle.cash.specs.Losses.{poolLoss, trancheLoss, trancheOutstanding, indexOutstanding, defaultPayment}
+use Rattle.cash.specs.Losses.{poolLoss, poolRecovery, trancheLoss, leftToLose, trancheOutstanding, indexOutstanding, defaultPayment}
 use Rattle.cash.proofs.Losses.{pool-loss-most, tranche-loss-whole}
 use Rattle.sheet.specs.Terms.{Terms, termsOf, bare}
 use Rattle.sheet.specs.Limits.{TranchesWithin}
 use Rattle.sheet.proofs.Limits.{attachment-most}
-use Rattle.tree.specs.Sheet.{poolLossOf, lossOf, widthOf, outstandingOf, defaultMost}
+use Rattle.tree.specs.Sheet.{poolLossOf, poolRecoveryOf, lossOf, widthOf, outstandingOf, defaultMost}
 use Rattle.tree.proofs.Sheets.{outstanding-within}
 use Rattle.rows.specs.Rows.{rowLength, nodeIn, rowOf}
 use Rattle.rows.specs.Kernels.{poolLosses, lowerOf, upperOf, paymentOf}
@@ -39,12 +39,14 @@ pub width-index : (x : Terms) (j : ℕ) → x .tranches ≤ j → widthOf x j �
 unfolding widthOf
 width-index x j h = rw (le-ltb j (x .tranches) h)
 
-pub outstanding-tranche : (x : Terms) (j k : ℕ) → j < x .tranches → outstandingOf x j k ≡ trancheOutstanding (getD (x .attachments) j 0) (getD (x .attachments) (suc j) 0) (poolLoss (x .names) (x .recovery) k)
-unfolding outstandingOf poolLossOf
+pub outstanding-tranche : (x : Terms) (j k : ℕ) → j < x .tranches →
+    outstandingOf x j k ≡ trancheOutstanding (getD (x .attachments) j 0) (getD (x .attachments) (suc j) 0) (poolLoss (x .names) (x .recovery) k) (poolRecovery (x .names) (x .recovery) k)
+unfolding outstandingOf poolLossOf poolRecoveryOf
 outstanding-tranche x j k h = rw (lt-ltb j (x .tranches) h)
 
-pub outstanding-index : (x : Terms) (j k : ℕ) → x .tranches ≤ j → outstandingOf x j k ≡ indexOutstanding (x .names) k
-unfolding outstandingOf
+pub outstanding-index : (x : Terms) (j k : ℕ) → x .tranches ≤ j →
+    outstandingOf x j k ≡ indexOutstanding (poolLoss (x .names) (x .recovery) k) (poolRecovery (x .names) (x .recovery) k)
+unfolding outstandingOf poolLossOf poolRecoveryOf
 outstanding-index x j k h = rw (le-ltb j (x .tranches) h)
 
 -- ---- as the code has them, with the upper attachment at j + 1
@@ -55,10 +57,11 @@ loss-is x j k loss r h e q =
     ∙ (λ t. trancheLoss (getD (x .attachments) j 0) (getD (x .attachments) (add-one j t) 0) (e t))
     ∙ sym (loss-tranche x j k h)
 
-pub outstanding-is : (x : Terms) (j k loss r : ℕ) → j < x .tranches → loss ≡ poolLoss (x .names) (x .recovery) k → r ≡ trancheOutstanding (getD (x .attachments) j 0) (getD (x .attachments) (j + 1) 0) loss → r ≡ outstandingOf x j k
-outstanding-is x j k loss r h e q =
+pub outstanding-is : (x : Terms) (j k loss recovered r : ℕ) → j < x .tranches → loss ≡ poolLoss (x .names) (x .recovery) k → recovered ≡ poolRecovery (x .names) (x .recovery) k
+    → r ≡ trancheOutstanding (getD (x .attachments) j 0) (getD (x .attachments) (j + 1) 0) loss recovered → r ≡ outstandingOf x j k
+outstanding-is x j k loss recovered r h e g q =
     q
-    ∙ (λ t. trancheOutstanding (getD (x .attachments) j 0) (getD (x .attachments) (add-one j t) 0) (e t))
+    ∙ (λ t. trancheOutstanding (getD (x .attachments) j 0) (getD (x .attachments) (add-one j t) 0) (e t) (g t))
     ∙ sym (outstanding-tranche x j k h)
 
 pub width-is : (x : Terms) (j : ℕ) → j < x .tranches → getD (x .attachments) (j + 1) 0 - getD (x .attachments) j 0 ≡ widthOf x j
@@ -143,16 +146,16 @@ loss-read x j k lower upper r losses q a b e h =
     ∙ ap (trancheLoss (lowerOf x j) (upperOf x j)) (losses-at (x .names) (x .recovery) k q)
     ∙ loss-between x j k q
 
-pub ceiling-between : (x : Terms) (j k : ℕ) → k ≤ x .names → trancheOutstanding (lowerOf x j) (upperOf x j) (poolLoss (x .names) (x .recovery) k) ≡ defaultMost x j k
-unfolding trancheOutstanding defaultMost
+pub ceiling-between : (x : Terms) (j k : ℕ) → k ≤ x .names → leftToLose (lowerOf x j) (upperOf x j) (poolLoss (x .names) (x .recovery) k) ≡ defaultMost x j k
+unfolding leftToLose defaultMost
 ceiling-between x j k q = ap₂ (λ a b. a - b) (sym (width-between x j)) (loss-between x j k q)
 
 pub ceiling-read : (x : Terms) (j k lower upper r : ℕ) (losses : List ℕ) → k ≤ x .names → lower ≡ lowerOf x j → upper ≡ upperOf x j → losses ≡ poolLosses (x .names) (x .recovery)
-    → r ≡ trancheOutstanding lower upper (getD losses k 0) → r ≡ defaultMost x j k
+    → r ≡ leftToLose lower upper (getD losses k 0) → r ≡ defaultMost x j k
 ceiling-read x j k lower upper r losses q a b e h =
     h
-    ∙ (λ t. trancheOutstanding (a t) (b t) (getD (e t) k 0))
-    ∙ ap (trancheOutstanding (lowerOf x j) (upperOf x j)) (losses-at (x .names) (x .recovery) k q)
+    ∙ (λ t. leftToLose (a t) (b t) (getD (e t) k 0))
+    ∙ ap (leftToLose (lowerOf x j) (upperOf x j)) (losses-at (x .names) (x .recovery) k q)
     ∙ ceiling-between x j k q
 
 -- ---- what a default pays
@@ -173,7 +176,7 @@ module _ (pool : Pool) (attachments hazards discounts accruals : List ℕ) where
   loss-bare = refl
 
   pub outstanding-bare : outstandingOf (bare pool attachments) ≡ outstandingOf (termsOf pool attachments hazards discounts accruals)
-  unfolding outstandingOf poolLossOf
+  unfolding outstandingOf poolLossOf poolRecoveryOf
   outstanding-bare = refl
 
   pub payment-bare : paymentOf (bare pool attachments) ≡ paymentOf (termsOf pool attachments hazards discounts accruals)

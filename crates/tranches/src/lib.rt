@@ -32,11 +32,17 @@ pub fn outstanding_at(pool: Pool, attachments: &[u64], tranche: usize, count: us
     requires { ⌜ (tranche ≤ pool .tranches) × (count ≤ pool .names) ⌝ }
     ensures { λ r. ⌜ r ≡ outstandingOf (bare pool (now (attachments .entry))) tranche count ⌝ }
 {
-    if pool.tranches <= tranche {
-        return cash::index_outstanding(pool.names, count);
-    }
     let loss = cash::pool_loss(pool.names, pool.recovery, count);
-    cash::tranche_outstanding(attachments[tranche], attachments[tranche + 1], loss)
+    let recovered = cash::pool_recovery(pool.names, pool.recovery, count);
+    if pool.tranches <= tranche {
+        return cash::index_outstanding(loss, recovered);
+    }
+    cash::tranche_outstanding(
+        attachments[tranche],
+        attachments[tranche + 1],
+        loss,
+        recovered,
+    )
 }
 
 // How often the divisor is in a remainder to which less than one more was added: 1 once it has reached it.

@@ -3,16 +3,16 @@ use mathlib.Core.Path.{refl}
 use lib.Dec.{lit≤}
 use Rattle.cash.specs.Units.{B, half}
 use Rattle.cash.specs.Sums.{sumTo}
-use Rattle.cash.specs.Losses.{poolLoss, trancheLoss, trancheOutstanding, indexOutstanding, defaultPayment, premiumPayment}
+use Rattle.cash.specs.Losses.{poolLoss, poolRecovery, trancheLoss, trancheRecovery, trancheOutstanding, indexOutstanding, defaultPayment, premiumPayment}
 use Rattle.tree.specs.Paths.{allMoves, keeps, those, paths, weight, paid, total, pathSum, exact}
 use Rattle.tree.specs.Backward.{rollNode, backFrom, back, over, legValue, legExact}
 use Rattle.tree.specs.Legs.{defaultCash, premiumCash, premiumExact, mark}
-use Rattle.tree.specs.Sheet.{hazardOf, discountOf, accrualOf, poolLossOf, lossOf, outstandingOf, treeOf, defaultOf, premiumOf, D, A, exactD, exactA, dates, spanning}
+use Rattle.tree.specs.Sheet.{hazardOf, discountOf, accrualOf, poolLossOf, poolRecoveryOf, lossOf, outstandingOf, treeOf, defaultOf, premiumOf, D, A, exactD, exactA, dates, spanning}
 use Rattle.tree.specs.Forward.{same, outflow, fromBelow, pushed, distribution, lands, probability, apart, errors}
-use Rattle.tree.specs.Trials.{Starred, Exactly, Roundings, Bounds}
+use Rattle.tree.specs.Trials.{Starred, Exactly, Roundings, Recoveries, Bounds}
 
 pub starred : Starred
-unfolding B half poolLoss trancheLoss trancheOutstanding indexOutstanding defaultPayment premiumPayment rollNode backFrom back legValue defaultCash premiumCash hazardOf discountOf accrualOf poolLossOf lossOf outstandingOf treeOf defaultOf premiumOf D A same outflow fromBelow pushed distribution
+unfolding B half poolLoss poolRecovery trancheLoss trancheRecovery trancheOutstanding indexOutstanding defaultPayment premiumPayment rollNode backFrom back legValue defaultCash premiumCash hazardOf discountOf accrualOf poolLossOf poolRecoveryOf lossOf outstandingOf treeOf defaultOf premiumOf D A same outflow fromBelow pushed distribution
 starred =
     record {
       first-at-6 = refl;
@@ -35,7 +35,7 @@ starred =
     }
 
 pub exactly : Exactly
-unfolding B poolLoss trancheLoss trancheOutstanding indexOutstanding defaultPayment allMoves keeps those paths weight paid total pathSum exact legExact defaultCash premiumExact hazardOf discountOf accrualOf poolLossOf lossOf outstandingOf treeOf defaultOf premiumOf exactD exactA same lands probability
+unfolding B poolLoss poolRecovery trancheLoss trancheRecovery trancheOutstanding indexOutstanding defaultPayment allMoves keeps those paths weight paid total pathSum exact legExact defaultCash premiumExact hazardOf discountOf accrualOf poolLossOf poolRecoveryOf lossOf outstandingOf treeOf defaultOf premiumOf exactD exactA same lands probability
 exactly =
     record {
       tranche-default = refl;
@@ -50,7 +50,7 @@ exactly =
     }
 
 pub roundings : Roundings
-unfolding B half poolLoss trancheLoss trancheOutstanding indexOutstanding defaultPayment premiumPayment rollNode backFrom back legValue defaultCash premiumCash hazardOf discountOf accrualOf poolLossOf lossOf outstandingOf treeOf defaultOf premiumOf D A same outflow fromBelow pushed distribution
+unfolding B half poolLoss poolRecovery trancheLoss trancheRecovery trancheOutstanding indexOutstanding defaultPayment premiumPayment rollNode backFrom back legValue defaultCash premiumCash hazardOf discountOf accrualOf poolLossOf poolRecoveryOf lossOf outstandingOf treeOf defaultOf premiumOf D A same outflow fromBelow pushed distribution
 roundings =
     record {
       loss-at-1 = refl;
@@ -67,11 +67,36 @@ roundings =
       row-at-2 = refl;
     }
 
+pub recoveries : Recoveries
+unfolding B half poolLoss poolRecovery trancheLoss trancheRecovery trancheOutstanding indexOutstanding defaultPayment premiumPayment rollNode backFrom back legValue defaultCash premiumCash hazardOf discountOf accrualOf poolLossOf poolRecoveryOf lossOf outstandingOf treeOf defaultOf premiumOf D A same outflow fromBelow pushed distribution
+recoveries =
+    record {
+      first-at-1 = refl;
+      second-at-1 = refl;
+      index-at-1 = refl;
+      first-at-2 = refl;
+      second-at-2 = refl;
+      index-at-2 = refl;
+      second-at-3 = refl;
+      index-at-3 = refl;
+      premium = refl;
+      none-first-at-1 = refl;
+      none-second-at-1 = refl;
+      none-index-at-1 = refl;
+      all-first-at-2 = refl;
+      all-second-at-2 = refl;
+      all-index-at-2 = refl;
+      all-first-at-3 = refl;
+      below-the-top = refl;
+      all-default = refl;
+    }
+
 pub bounds : Bounds
-unfolding B half sumTo poolLoss trancheLoss trancheOutstanding defaultPayment premiumPayment rollNode backFrom back over legValue defaultCash premiumCash mark hazardOf discountOf accrualOf poolLossOf lossOf outstandingOf treeOf defaultOf premiumOf D A dates spanning allMoves keeps those paths weight total pathSum same outflow fromBelow pushed distribution lands probability apart errors
+unfolding B half sumTo poolLoss poolRecovery trancheLoss trancheRecovery trancheOutstanding indexOutstanding defaultPayment premiumPayment rollNode backFrom back over legValue defaultCash premiumCash mark hazardOf discountOf accrualOf poolLossOf poolRecoveryOf lossOf outstandingOf treeOf defaultOf premiumOf D A dates spanning allMoves keeps those paths weight total pathSum same outflow fromBelow pushed distribution lands probability apart errors
 bounds =
     record {
       defaults-add = record { below = lit≤ tt; above = lit≤ tt };
       premiums-add = record { below = lit≤ tt; above = lit≤ tt };
+      index-premiums-add = record { below = lit≤ tt; above = lit≤ tt };
       errors = lit≤ tt;
     }

@@ -1,7 +1,7 @@
 -- Facts of a sheet within limits: its tree, its losses, its legs, and the ceilings that its rows keep to.
 use Prim.Native.Nat.{ℕ, zero, suc, _+_, _-_, _*_, _≤_, _<_, zero-le}
 use native.Mathlib.Nat.{le-refl, add-zero, suc-add, add-suc}
-use mathlib.Core.Path.{_≡_, refl, sym, _∙_, ap}
+use mathlib.Core.Path.{_≡_, refl, sym, _∙_, ap, ap₂}
 use mathlib.Core.Bool.{Bool, true, false, cond}
 use mathlib.Core.List.{List, [], _∷_}
 use native.Mathlib.Omega.{arith}
@@ -10,13 +10,14 @@ use lib.Dec.{ltb}
 use borrow.Author.Tests.{lt-ltb, le-ltb}
 use Rattle.cash.specs.Units.{B}
 use Rattle.cash.specs.Sums.{sumTo}
-use Rattle.cash.specs.Losses.{trancheLoss, trancheOutstanding}
+use Rattle.cash.specs.Losses.{trancheLoss, trancheOutstanding, indexOutstanding}
 use Rattle.cash.proofs.Sums.{sum-cong}
-use Rattle.cash.proofs.Losses.{pool-loss-rises, pool-loss-most, tranche-loss-rises, tranche-loss-most, losses-add, outstanding-falls, outstanding-most, outstandings-add, index-outstanding-falls, index-outstanding-most}
+use Rattle.cash.proofs.Losses.{pool-loss-rises, pool-loss-most, tranche-loss-rises, tranche-loss-most, losses-add}
+use Rattle.cash.proofs.Recoveries.{pool-recovery-rises, outstanding-falls, outstanding-most, outstandings-add, outstanding-whole, index-outstanding-falls, index-outstanding-most}
 use Rattle.tree.specs.Paths.{Fair}
 use Rattle.tree.specs.Backward.{backFrom, over, Agrees, legHalves}
 use Rattle.sheet.specs.Terms.{Terms, sumOf}
-use Rattle.tree.specs.Sheet.{hazardOf, discountOf, accrualOf, poolLossOf, lossOf, widthOf, outstandingOf, treeOf, defaultOf, premiumOf, dates, defaultMost, premiumMost, spanning}
+use Rattle.tree.specs.Sheet.{hazardOf, discountOf, accrualOf, poolLossOf, poolRecoveryOf, lossOf, widthOf, outstandingOf, treeOf, defaultOf, premiumOf, dates, defaultMost, premiumMost, WholePool, spanning}
 use Rattle.sheet.specs.Limits.{TranchesWithin, TermsWithin}
 use Rattle.sheet.proofs.Limits.{attachment-most, hazard-most, discount-most}
 use Rattle.tree.proofs.Additions.{Spans}
@@ -57,6 +58,10 @@ pool-most : (x : Terms) (k : ℕ) → k ≤ x .names → poolLossOf x k ≤ B - 
 unfolding poolLossOf
 pool-most x k l = pool-loss-most (x .names) (x .recovery) k l
 
+recovery-rises : (x : Terms) → TranchesWithin x → (k : ℕ) → poolRecoveryOf x k ≤ poolRecoveryOf x (suc k)
+unfolding poolRecoveryOf
+recovery-rises x w k = pool-recovery-rises (x .names) (x .recovery) k (w .pool .names .0)
+
 pub loss-rises : (x : Terms) → TranchesWithin x → (j k : ℕ) → lossOf x j k ≤ lossOf x j (suc k)
 unfolding lossOf
 loss-rises x w j k = choose-le (ltb j (x .tranches)) (tranche-loss-rises _ _ _ _ (pool-rises x w k)) (pool-rises x w k)
@@ -67,11 +72,13 @@ loss-most x j k l = choose-le (ltb j (x .tranches)) (tranche-loss-most _ _ _) (p
 
 pub outstanding-less : (x : Terms) → TranchesWithin x → (j k : ℕ) → outstandingOf x j (suc k) ≤ outstandingOf x j k
 unfolding outstandingOf
-outstanding-less x w j k = choose-le (ltb j (x .tranches)) (outstanding-falls _ _ _ _ (pool-rises x w k)) (index-outstanding-falls (x .names) k (w .pool .names .0))
+outstanding-less x w j k =
+    choose-le (ltb j (x .tranches)) (outstanding-falls _ _ _ _ _ _ (pool-rises x w k) (recovery-rises x w k))
+    (index-outstanding-falls _ _ _ _ (pool-rises x w k) (recovery-rises x w k))
 
 pub outstanding-within : (x : Terms) → TranchesWithin x → (j k : ℕ) → outstandingOf x j k ≤ B
 unfolding outstandingOf
-outstanding-within x w j k = choose-most (ltb j (x .tranches)) (outstanding-most _ _ _ (attachment-most x w (suc j))) (index-outstanding-most (x .names) k)
+outstanding-within x w j k = choose-most (ltb j (x .tranches)) (outstanding-most _ _ _ _ (attachment-most x w (suc j))) (index-outstanding-most _ _)
 
 -- ---- the tranches and the one that spans them
 
@@ -85,15 +92,32 @@ losses-span x w k =
     whole : trancheLoss (getD (x .attachments) 0 0) (getD (x .attachments) (x .tranches) 0) (poolLossOf x k) ≡ lossOf (spanning x) 0 k
     whole = unfold lossOf spanning poolLossOf in refl
 
-outstandings-span : (x : Terms) → TranchesWithin x → (k : ℕ) → sumTo (x .tranches) (λ j. outstandingOf x j k) ≡ outstandingOf (spanning x) 0 k
-outstandings-span x w k =
-    sum-cong (x .tranches) _ _ (λ j l. inside j l) ∙ outstandings-add (x .tranches) (λ j. getD (x .attachments) j 0) (w .attachments .rise) (poolLossOf x k) ∙ whole
+-- what is outstanding of all tranches is so between the first point and the last
+outstandings-all : (x : Terms) → TranchesWithin x → (k : ℕ) →
+    sumTo (x .tranches) (λ j. outstandingOf x j k) ≡ trancheOutstanding (getD (x .attachments) 0 0) (getD (x .attachments) (x .tranches) 0) (poolLossOf x k) (poolRecoveryOf x k)
+outstandings-all x w k =
+    sum-cong (x .tranches) _ _ (λ j l. inside j l)
+    ∙ outstandings-add (x .tranches) (λ j. getD (x .attachments) j 0) (w .attachments .rise) (attachment-most x w (x .tranches)) (poolLossOf x k) (poolRecoveryOf x k)
   where
-    inside : (j : ℕ) → j < x .tranches → outstandingOf x j k ≡ trancheOutstanding (getD (x .attachments) j 0) (getD (x .attachments) (suc j) 0) (poolLossOf x k)
+    inside : (j : ℕ) → j < x .tranches → outstandingOf x j k ≡ trancheOutstanding (getD (x .attachments) j 0) (getD (x .attachments) (suc j) 0) (poolLossOf x k) (poolRecoveryOf x k)
     inside j l = unfold outstandingOf in rw (lt-ltb j (x .tranches) l)
 
-    whole : trancheOutstanding (getD (x .attachments) 0 0) (getD (x .attachments) (x .tranches) 0) (poolLossOf x k) ≡ outstandingOf (spanning x) 0 k
-    whole = unfold outstandingOf spanning poolLossOf in refl
+outstandings-span : (x : Terms) → TranchesWithin x → (k : ℕ) → sumTo (x .tranches) (λ j. outstandingOf x j k) ≡ outstandingOf (spanning x) 0 k
+outstandings-span x w k = outstandings-all x w k ∙ whole
+  where
+    whole : trancheOutstanding (getD (x .attachments) 0 0) (getD (x .attachments) (x .tranches) 0) (poolLossOf x k) (poolRecoveryOf x k) ≡ outstandingOf (spanning x) 0 k
+    whole = unfold outstandingOf spanning poolLossOf poolRecoveryOf in refl
+
+-- and of the whole pool as much as of the index
+pub outstandings-index : (x : Terms) → TranchesWithin x → WholePool x → (k : ℕ) → sumTo (x .tranches) (λ j. outstandingOf x j k) ≡ outstandingOf x (x .tranches) k
+outstandings-index x w p k =
+    outstandings-all x w k
+    ∙ ap₂ (λ lower upper. trancheOutstanding lower upper (poolLossOf x k) (poolRecoveryOf x k)) (p .first) (p .last)
+    ∙ outstanding-whole (poolLossOf x k) (poolRecoveryOf x k)
+    ∙ index
+  where
+    index : indexOutstanding (poolLossOf x k) (poolRecoveryOf x k) ≡ outstandingOf x (x .tranches) k
+    index = unfold outstandingOf in rw (le-ltb (x .tranches) (x .tranches) (le-refl _))
 
 -- ---- the legs
 
@@ -120,6 +144,10 @@ defaults-spanned x w = defaults-span (x .tranches) (lossOf x) (lossOf (spanning 
 pub premiums-spanned : (x : Terms) → TranchesWithin x → Spans (x .tranches) (premiumOf x) (premiumOf (spanning x) 0)
 unfolding premiumOf spanning accrualOf
 premiums-spanned x w = premiums-span (x .tranches) (accrualOf x) (outstandingOf x) (outstandingOf (spanning x) 0) (outstandings-span x w)
+
+pub premiums-of-index : (x : Terms) → TranchesWithin x → WholePool x → Spans (x .tranches) (premiumOf x) (premiumOf x (x .tranches))
+unfolding premiumOf
+premiums-of-index x w p = premiums-span (x .tranches) (accrualOf x) (outstandingOf x) (outstandingOf x (x .tranches)) (outstandings-index x w p)
 
 -- ---- ceilings of rows that start from any row within its own
 

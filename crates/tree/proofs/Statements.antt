@@ -1,20 +1,21 @@
 -- The statements of specs/Statements.antt, proved.
 use Prim.Native.Nat.{ℕ, _+_, _*_, zero-le}
 use native.Mathlib.Nat.{le-of-eq}
-use mathlib.Core.Path.{_≡_, refl}
+use mathlib.Core.Path.{_≡_, refl, _∙_, ap}
 use native.Mathlib.Omega.{arith}
 use Rattle.cash.proofs.Nearness.{near-as, near-halve}
+use Rattle.cash.proofs.Sums.{sum-times}
 use Rattle.tree.specs.Paths.{Tree, Fair}
 use Rattle.tree.specs.Backward.{back, legValue, legHalves}
 use Rattle.sheet.specs.Terms.{Terms}
-use Rattle.tree.specs.Sheet.{hazardOf, discountOf, lossOf, accrualOf, outstandingOf, treeOf, defaultOf, premiumOf, D, A, exactD, exactA, dates, spanning}
+use Rattle.tree.specs.Sheet.{hazardOf, discountOf, lossOf, accrualOf, outstandingOf, treeOf, defaultOf, premiumOf, D, A, exactD, exactA, dates, WholePool, spanning}
 use Rattle.sheet.specs.Limits.{TermsWithin}
-use Rattle.tree.specs.Statements.{Certain, Distance, Additive, Ceilings, Jumps, DistributionBounds}
+use Rattle.tree.specs.Statements.{Certain, Distance, IndexPremiums, Additive, Ceilings, Jumps, DistributionBounds}
 use Rattle.tree.proofs.PathSums.{total-chance}
 use Rattle.tree.proofs.Distances.{leg-distance}
-use Rattle.tree.proofs.Additions.{legs-exact, legs-add, legs-alike}
+use Rattle.tree.proofs.Additions.{Spans, legs-exact, legs-add, legs-alike}
 use Rattle.tree.proofs.Jumps.{default-jump, premium-jump}
-use Rattle.tree.proofs.Sheets.{fair-of, outstanding-less, default-agrees-of, premium-agrees-of, default-halves-of, premium-halves-of, defaults-spanned, premiums-spanned, default-keeps, premium-keeps}
+use Rattle.tree.proofs.Sheets.{fair-of, outstanding-less, default-agrees-of, premium-agrees-of, default-halves-of, premium-halves-of, defaults-spanned, premiums-spanned, outstandings-index, premiums-of-index, default-keeps, premium-keeps}
 use Rattle.tree.proofs.Forward.{distribution-total, distribution-errors}
 
 pub certain : (t : Tree) → Fair t → Certain t
@@ -29,6 +30,22 @@ distance x w =
       premium =
           λ j h i k l. near-as (leg-distance (treeOf x) (fair-of x w) (premiumOf x j) (premium-agrees-of x j) h i k l) (rw (premium-halves-of x j h i) (omega arith)) refl refl;
     }
+
+index-premiums : (x : Terms) → TermsWithin x → WholePool x → IndexPremiums x
+unfolding A exactA treeOf
+index-premiums x w p =
+    record {
+      cash = λ s k. sum-times (accrualOf x s) (x .tranches) (λ j. outstandingOf x j k) ∙ ap (λ y. accrualOf x s * y) (outstandings-index x (w .tranches) p k);
+      exact = legs-exact (treeOf x) (x .tranches) (premiumOf x) (premiumOf x (x .tranches)) adds;
+      computed =
+          λ h i k l. near-as
+          (legs-add (treeOf x) (fair-of x w) (x .tranches) (premiumOf x) (premiumOf x (x .tranches)) (premium-agrees-of x) (premium-agrees-of x (x .tranches)) adds h i k l)
+          (le-of-eq (legs-alike (x .tranches) (2 * h + dates x h i) (premiumOf x) (premiumOf x (x .tranches)) h i (λ j below. premium-halves-of x j h i) (premium-halves-of x (x .tranches) h i)))
+          refl refl;
+    }
+  where
+    adds : Spans (x .tranches) (premiumOf x) (premiumOf x (x .tranches))
+    adds = premiums-of-index x (w .tranches) p
 
 pub additive : (x : Terms) → TermsWithin x → Additive x
 unfolding D A exactD exactA spanning treeOf hazardOf discountOf
@@ -46,6 +63,7 @@ additive x w =
           (legs-add (treeOf x) (fair-of x w) (x .tranches) (premiumOf x) (premiumOf (spanning x) 0) (premium-agrees-of x) (premium-agrees-of (spanning x) 0) (premiums-spanned x (w .tranches)) h i k l)
           (le-of-eq (legs-alike (x .tranches) (2 * h + dates x h i) (premiumOf x) (premiumOf (spanning x) 0) h i (λ j below. premium-halves-of x j h i) (same-dates h i)))
           refl refl;
+      index = index-premiums x w;
     }
   where
     same-dates : (h i : ℕ) → legHalves (premiumOf (spanning x) 0) h i ≡ 2 * h + dates x h i

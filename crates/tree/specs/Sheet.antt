@@ -1,12 +1,13 @@
 -- A sheet by its lists, and what each means on the tree (document 01, 'Sheet and units', 'Arithmetic and cash' and 'Walking back').
 use Prim.Native.Nat.{ℕ, suc, pred, _-_}
+use mathlib.Core.Path.{_≡_}
 use mathlib.Core.Bool.{cond}
 use mathlib.Core.List.{[], _∷_}
 use lib.ListN.{getD, drop}
 use lib.Dec.{ltb}
 use Rattle.cash.specs.Units.{B}
 use Rattle.sheet.specs.Terms.{Terms, sumOf}
-use Rattle.cash.specs.Losses.{poolLoss, trancheLoss, trancheOutstanding, indexOutstanding}
+use Rattle.cash.specs.Losses.{poolLoss, poolRecovery, trancheLoss, trancheOutstanding, indexOutstanding}
 use Rattle.tree.specs.Paths.{Tree}
 use Rattle.tree.specs.Backward.{Leg, over, legValue, legExact}
 use Rattle.tree.specs.Legs.{defaultLeg, premiumLeg, mark}
@@ -26,6 +27,10 @@ accrualOf x s = getD (x .accruals) (pred s) 0
 unfoldable pub poolLossOf : Terms → ℕ → ℕ
 poolLossOf x k = poolLoss (x .names) (x .recovery) k
 
+-- Z(k) (T-12)
+unfoldable pub poolRecoveryOf : Terms → ℕ → ℕ
+poolRecoveryOf x k = poolRecovery (x .names) (x .recovery) k
+
 -- M(k) of tranche j; tranche r is the index. ('Arithmetic and cash')
 unfoldable pub lossOf : Terms → ℕ → ℕ → ℕ
 lossOf x j k =
@@ -37,12 +42,12 @@ lossOf x j k =
 unfoldable pub widthOf : Terms → ℕ → ℕ
 widthOf x j = cond (ltb j (x .tranches)) (getD (x .attachments) (suc j) 0 - getD (x .attachments) j 0) (B - x .recovery)
 
--- O(k) of tranche j. ('Arithmetic and cash')
+-- O(k) of tranche j. ('Arithmetic and cash', and T-12)
 unfoldable pub outstandingOf : Terms → ℕ → ℕ → ℕ
 outstandingOf x j k =
     cond (ltb j (x .tranches))
-    (trancheOutstanding (getD (x .attachments) j 0) (getD (x .attachments) (suc j) 0) (poolLossOf x k))
-    (indexOutstanding (x .names) k)
+    (trancheOutstanding (getD (x .attachments) j 0) (getD (x .attachments) (suc j) 0) (poolLossOf x k) (poolRecoveryOf x k))
+    (indexOutstanding (poolLossOf x k) (poolRecoveryOf x k))
 
 -- The tree of a sheet. ('Walking back', as all below)
 unfoldable pub treeOf : Terms → Tree
@@ -79,6 +84,11 @@ defaultMost x j k = widthOf x j - lossOf x j k
 
 unfoldable pub premiumMost : Terms → ℕ → ℕ → ℕ
 premiumMost x i k = sumOf (drop i (x .accruals))
+
+-- The attachment points run from 0 to B, so that the tranches are the whole pool. (T-12)
+pub record WholePool (x : Terms) : Type 0 where
+  pub first : getD (x .attachments) 0 0 ≡ 0
+  pub last : getD (x .attachments) (x .tranches) 0 ≡ B
 
 -- The sheet with the one tranche that spans the tranches of x.
 unfoldable pub spanning : Terms → Terms

@@ -7,7 +7,8 @@ use Rattle.cash.specs.Sums.{sumTo}
 use Rattle.cash.specs.Losses.{defaultPayment}
 use Rattle.tree.specs.Paths.{Tree, pathSum}
 use Rattle.sheet.specs.Terms.{Terms}
-use Rattle.tree.specs.Sheet.{treeOf, lossOf, D, A, exactD, exactA, dates, defaultMost, premiumMost, spanning}
+use Rattle.tree.specs.Sheet.{treeOf, accrualOf, lossOf, outstandingOf, D, A, exactD, exactA, dates}
+use Rattle.tree.specs.Sheet.{defaultMost, premiumMost, WholePool, spanning}
 use Rattle.tree.specs.Forward.{distribution, errors}
 
 -- The chances of all lists of h moves from a count add to certainty.
@@ -19,6 +20,17 @@ pub record Distance (x : Terms) : Type 0 where
   pub default : (j h i k : ℕ) → k ≤ x .names → Near (h * B ^ (2 * h + 1)) (D x j h i k * B ^ (2 * h + 1)) (exactD x j h i k)
   pub premium : (j h i k : ℕ) → k ≤ x .names →
       Near ((2 * h + dates x h i) * B ^ (2 * h + 1)) (2 * (A x j h i k * B ^ (2 * h + 1))) (2 * exactA x j h i k)
+
+-- Where the tranches are the whole pool, their premium legs add to the index's, tranche r of the same sheet, within r + 1 times the distance (doubled).
+abbrev pub IndexPremiumsAdd : Terms → ℕ → ℕ → ℕ → Type 0
+IndexPremiumsAdd x h i k =
+    Near ((x .tranches + 1) * (2 * h + dates x h i)) (2 * sumTo (x .tranches) (λ j. A x j h i k)) (2 * A x (x .tranches) h i k)
+
+-- So it is of the rounded figures; the cash of every step and count, before it is rounded, and the exact values add without any distance. (T-12)
+pub record IndexPremiums (x : Terms) : Type 0 where
+  pub cash : (s k : ℕ) → sumTo (x .tranches) (λ j. accrualOf x s * outstandingOf x j k) ≡ accrualOf x s * outstandingOf x (x .tranches) k
+  pub exact : (h i k : ℕ) → sumTo (x .tranches) (λ j. exactA x j h i k) ≡ exactA x (x .tranches) h i k
+  pub computed : (h i k : ℕ) → k ≤ x .names → IndexPremiumsAdd x h i k
 
 -- The tranches add to the one that spans them within r + 1 times the distance, by the rounded rule at one node (A doubled).
 abbrev pub DefaultsAdd : Terms → ℕ → ℕ → ℕ → Type 0
@@ -34,6 +46,7 @@ pub record Additive (x : Terms) : Type 0 where
   pub premium-exact : (h i k : ℕ) → sumTo (x .tranches) (λ j. exactA x j h i k) ≡ exactA (spanning x) 0 h i k
   pub default : (h i k : ℕ) → k ≤ x .names → DefaultsAdd x h i k
   pub premium : (h i k : ℕ) → k ≤ x .names → PremiumsAdd x h i k
+  pub index : WholePool x → IndexPremiums x
 
 -- Every node of a walk from the last step keeps to its ceilings.
 pub record Ceilings (x : Terms) : Type 0 where

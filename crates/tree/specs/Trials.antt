@@ -1,12 +1,12 @@
 -- Trial entries as facts of the definitions: the starred ones of document 01, and figures beside them. Proved in proofs/Acceptance.antt.
-use Prim.Native.Nat.{_*_, _^_}
+use Prim.Native.Nat.{ℕ, _*_, _^_}
 use mathlib.Core.Path.{_≡_}
 use mathlib.Core.List.{[], _∷_}
 use Rattle.cash.specs.Units.{B, half}
 use Rattle.sheet.specs.Terms.{Terms}
 use Rattle.tree.specs.Sheet.{treeOf, poolLossOf, outstandingOf, D, A, exactD, exactA}
 use Rattle.tree.specs.Forward.{distribution, probability}
-use Rattle.tree.specs.Statements.{DefaultsAdd, PremiumsAdd, ErrorsWithin}
+use Rattle.tree.specs.Statements.{DefaultsAdd, PremiumsAdd, IndexPremiumsAdd, ErrorsWithin}
 
 -- The pool of 125 with two tranches. What is outstanding rests on no hazard, discount or accrual.
 abbrev pub wide : Terms
@@ -78,6 +78,34 @@ drifting =
       accruals = 0 ∷ 0 ∷ 1_000_000_000 ∷ [];
     }
 
+-- Three names that default for sure, in two tranches from 0 to B that meet at a point: a step shows what is outstanding after it, unit for unit.
+abbrev pub toppedPool : ℕ → ℕ → Terms
+toppedPool recovery middle =
+    record {
+      names = 3;
+      steps = 1;
+      tranches = 2;
+      recovery = recovery;
+      attachments = 0 ∷ middle ∷ 1_000_000_000 ∷ [];
+      hazards = 1_000_000_000 ∷ 1_000_000_000 ∷ 1_000_000_000 ∷ [];
+      discounts = 1_000_000_000 ∷ [];
+      accruals = 1_000_000_000 ∷ [];
+    }
+
+-- Eight tranches of the whole pool, of which seven are of a few units, with premiums of half a year.
+abbrev pub slivers : Terms
+slivers =
+    record {
+      names = 1;
+      steps = 1;
+      tranches = 8;
+      recovery = 500_000_000;
+      attachments = 0 ∷ 5 ∷ 6 ∷ 8 ∷ 11 ∷ 12 ∷ 13 ∷ 14 ∷ 1_000_000_000 ∷ [];
+      hazards = 500_000_000 ∷ [];
+      discounts = 1_000_000_000 ∷ [];
+      accruals = 500_000_000 ∷ [];
+    }
+
 -- The starred entries. The deck's figures stand at its root; tranche 1 of it is the index.
 pub record Starred : Type 0 where
   pub first-at-6 : outstandingOf wide 0 6 ≡ 1_200_000
@@ -109,14 +137,14 @@ pub record Exactly : Type 0 where
   pub chance-of-1 : probability (treeOf worked) 2 1 ≡ 170_000_000 * B
   pub chance-of-2 : probability (treeOf worked) 2 2 ≡ 20_000_000 * B
   pub uneven-default : exactD unevenPool 1 2 0 0 ≡ 55_084_334_121_420_493_856_152_191_186_177_138_024_252_270_000_000_000
-  pub uneven-premium : exactA unevenPool 1 2 0 0 ≡ 459_568_457_328_791_438_426_523_785_777_573_023_111_398_850_980_000_000
+  pub uneven-premium : exactA unevenPool 1 2 0 0 ≡ 459_568_457_408_739_658_030_138_522_708_965_747_413_728_351_380_000_000
 
--- The uneven pool: a loss is rounded down, and what is outstanding of the index up.
+-- The uneven pool: loss and recovery are rounded down, so what is outstanding may be nearly two units high.
 -- One rounding in place of two would end the four node values in 4, 2, 2 and 2.
 pub record Roundings : Type 0 where
   pub loss-at-1 : poolLossOf unevenPool 1 ≡ 216_666_666
   pub loss-at-2 : poolLossOf unevenPool 2 ≡ 433_333_333
-  pub index-at-1 : outstandingOf unevenPool 1 1 ≡ 666_666_667
+  pub index-at-1 : outstandingOf unevenPool 1 1 ≡ 666_666_668
   pub index-at-2 : outstandingOf unevenPool 1 2 ≡ 333_333_334
   pub premium-after-1 : A unevenPool 0 1 1 0 ≡ 67_510_883
   pub premium-after-2 : A unevenPool 0 2 0 0 ≡ 127_836_600
@@ -127,9 +155,33 @@ pub record Roundings : Type 0 where
   pub row-at-1 : distribution (treeOf unevenPool) 2 1 ≡ 202_713_000
   pub row-at-2 : distribution (treeOf unevenPool) 2 2 ≡ 28_958_999
 
+-- Recoveries off the top, of a pool of three by the count: tranche 0, tranche 1 and the index, in which the tranches add.
+-- At a recovery of B a default costs nothing, and takes the whole name off the top: where the tranches meet in the middle, the second default
+-- reaches into the one below.
+pub record Recoveries : Type 0 where
+  pub first-at-1 : outstandingOf (toppedPool 350_000_000 300_000_000) 0 1 ≡ 83_333_334
+  pub second-at-1 : outstandingOf (toppedPool 350_000_000 300_000_000) 1 1 ≡ 583_333_334
+  pub index-at-1 : outstandingOf (toppedPool 350_000_000 300_000_000) 2 1 ≡ 666_666_668
+  pub first-at-2 : outstandingOf (toppedPool 350_000_000 300_000_000) 0 2 ≡ 0
+  pub second-at-2 : outstandingOf (toppedPool 350_000_000 300_000_000) 1 2 ≡ 333_333_334
+  pub index-at-2 : outstandingOf (toppedPool 350_000_000 300_000_000) 2 2 ≡ 333_333_334
+  pub second-at-3 : outstandingOf (toppedPool 350_000_000 300_000_000) 1 3 ≡ 0
+  pub index-at-3 : outstandingOf (toppedPool 350_000_000 300_000_000) 2 3 ≡ 0
+  pub premium : A (toppedPool 350_000_000 300_000_000) 1 1 0 0 ≡ 583_333_334
+  pub none-first-at-1 : outstandingOf (toppedPool 0 300_000_000) 0 1 ≡ 0
+  pub none-second-at-1 : outstandingOf (toppedPool 0 300_000_000) 1 1 ≡ 666_666_667
+  pub none-index-at-1 : outstandingOf (toppedPool 0 300_000_000) 2 1 ≡ 666_666_667
+  pub all-first-at-2 : outstandingOf (toppedPool 1_000_000_000 300_000_000) 0 2 ≡ 300_000_000
+  pub all-second-at-2 : outstandingOf (toppedPool 1_000_000_000 300_000_000) 1 2 ≡ 33_333_334
+  pub all-index-at-2 : outstandingOf (toppedPool 1_000_000_000 300_000_000) 2 2 ≡ 333_333_334
+  pub all-first-at-3 : outstandingOf (toppedPool 1_000_000_000 300_000_000) 0 3 ≡ 0
+  pub below-the-top : outstandingOf (toppedPool 1_000_000_000 500_000_000) 0 2 ≡ 333_333_334
+  pub all-default : D (toppedPool 1_000_000_000 300_000_000) 2 1 0 0 ≡ 0
+
 -- What is owed between tranches, and of a distribution, where less would be false: the D of the eight units add to 8 and their A to 8,
--- beside 4 and 2 of the one that spans them, and the errors of three steps total 3.3 units.
+-- beside 4 and 2 of the one that spans them; the A of the slivers add to 5 units more than the index's; and the errors of three steps total 3.3 units.
 pub record Bounds : Type 0 where
   pub defaults-add : DefaultsAdd units 1 0 0
   pub premiums-add : PremiumsAdd units 1 0 0
+  pub index-premiums-add : IndexPremiumsAdd slivers 1 0 0
   pub errors : ErrorsWithin drifting 3

@@ -13,7 +13,8 @@ use Rattle.cash.proofs.Nearness.{near-as}
 use Rattle.cash.proofs.Sums.{sum-cong}
 use Rattle.sheet.specs.Terms.{Terms}
 use Rattle.sheet.proofs.Limits.{limits-terms}
-use Rattle.tree.specs.Sheet.{D, A, spanning}
+use Rattle.tree.specs.Sheet.{D, A, WholePool, spanning}
+use Rattle.tree.specs.Statements.{IndexPremiums}
 use Rattle.tree.proofs.Statements.{distance, additive}
 use Rattle.rows.specs.Rows.{nodeIn}
 use Rattle.sheet.specs.Brought.{Brought}
@@ -22,7 +23,7 @@ use Rattle.walk.specs.RefusalOrders.{OnWalk}
 use Rattle.walk.specs.CallRules.{says, ValueRule}
 use Rattle.walk.specs.Engine.{Engine}
 use Rattle.walk.specs.CallLists.{ownRows, rowsLent, value, afterWalkCall, callResult, Run, end, history, answers}
-use Rattle.walk.specs.Accuracy.{Walked, heldD, heldA, heldWorth, ShownValue, WalkAccuracy, Owed}
+use Rattle.walk.specs.Accuracy.{Walked, heldD, heldA, heldWorth, ShownValue, IndexAccuracy, WalkAccuracy, Owed}
 use Rattle.walk.specs.Promise.{Rules}
 use Rattle.walk.proofs.Acceptance.{value-taken, ten-early}
 use Rattle.walk.proofs.Steps.{Holding}
@@ -87,6 +88,19 @@ module _ (e : Engine) (rules : Rules e) (u : Run) (z h : ℕ) (w : Walked e u z 
           says (pos (nodeIn (x .sheet) (end e u .rows .defaults) j k) ∷ pos (nodeIn (x .sheet) (end e u .rows .premiums) j k)
           ∷ netValue (nodeIn (x .sheet) (end e u .rows .defaults) j k) (getD (x .coupons) j 0) (nodeIn (x .sheet) (end e u .rows .premiums) j k) ∷ [])
 
+  of-index : WholePool (u .catalogue .sheet z .sheet) → IndexAccuracy e u (u .catalogue .sheet z .sheet) h
+  of-index p =
+      let x = u .catalogue .sheet z .sheet in
+      let adds : IndexPremiums x = additive x (limits-terms (u .catalogue .sheet z) (placed e rules u z h w .stood .limits)) .index p in
+      record {
+        cash = adds .cash;
+        exact = adds .exact h (x .steps - h);
+        held = λ k m.
+            near-as (adds .computed h (x .steps - h) k m) (le-refl _)
+            (ap (λ d. 2 * d) (sum-cong (x .tranches) _ _ (λ j l. sym (held-A e rules u z h w x refl j k (omega arith) m))))
+            (ap (λ d. 2 * d) (sym (held-A e rules u z h w x refl (x .tranches) k (le-refl _) m)));
+      }
+
   found : WalkAccuracy e u (u .catalogue .sheet z) h
   unfolding spanning
   found =
@@ -110,6 +124,7 @@ module _ (e : Engine) (rules : Rules e) (u : Run) (z h : ℕ) (w : Walked e u z 
             near-as (additive (x .sheet) inside .premium h i k m) (le-refl _)
             (ap (λ d. 2 * d) (sum-cong (x .sheet .tranches) _ _ (λ j l. sym (held-A e rules u z h w (x .sheet) refl j k (omega arith) m))))
             (ap (λ d. 2 * d) (sym (held-A e rules v y h wy (spanning (x .sheet)) s 0 k (omega arith) m)));
+        premiums-of-index = of-index;
       }
 
 pub owed : (e : Engine) → Rules e → (u : Run) → Owed e u

@@ -13,7 +13,7 @@ use Rattle.cash.specs.Sums.{sumTo}
 use Rattle.cash.specs.Hedges.{netValue}
 use Rattle.sheet.specs.Terms.{Terms}
 use Rattle.sheet.specs.Brought.{Brought}
-use Rattle.tree.specs.Sheet.{D, A, exactD, exactA, dates, spanning}
+use Rattle.tree.specs.Sheet.{accrualOf, outstandingOf, D, A, exactD, exactA, dates, WholePool, spanning}
 use Rattle.rows.specs.Rows.{nodeIn, AtEveryNode}
 use Rattle.walk.specs.Answers.{Said, accepted}
 use Rattle.walk.specs.CallRules.{says}
@@ -56,6 +56,19 @@ pub record ShownValue (e : Engine) (run : Run) (x : Brought) (y j k : ℕ) : Typ
   -- It says the D and the A that stand in the rows, and W.
   pub said : answers e run (value y ownRows j k) ≡ heldWorth e run x j k
 
+-- Where the attachment points run from 0 to B, the premiums of the tranches are those of the index, tranche r of the same rows. (T-12)
+pub record IndexAccuracy (e : Engine) (run : Run) (sheet : Terms) (h : ℕ) : Type 0 where
+  -- Before any rounding, the cash of each step at each count adds without a unit's difference.
+  pub cash : (s k : ℕ) →
+      sumTo (sheet .tranches) (λ j. accrualOf sheet s * outstandingOf sheet j k) ≡ accrualOf sheet s * outstandingOf sheet (sheet .tranches) k
+  -- So do the exact values.
+  pub exact : (k : ℕ) →
+      sumTo (sheet .tranches) (λ j. exactA sheet j h (positionAfter sheet h) k) ≡ exactA sheet (sheet .tranches) h (positionAfter sheet h) k
+  -- The premium legs in the rows do so within the distances of all r + 1 of them (doubled).
+  pub held : (k : ℕ) → k ≤ sheet .names →
+      Near ((sheet .tranches + 1) * (2 * h + dates sheet h (positionAfter sheet h)))
+      (2 * sumTo (sheet .tranches) (λ j. heldA e run sheet j k)) (2 * heldA e run sheet (sheet .tranches) k)
+
 -- What is found where a list ends that walked h steps back on x.
 -- Exact values are whole numbers over B ^ (2 h + 1). Distances of A are doubled, so that half a unit for each premium date is whole.
 -- `second` is a second list, on a sheet of one tranche with the same outer attachment points, equal but for number and coupons, walked as far.
@@ -64,7 +77,7 @@ pub record WalkAccuracy (e : Engine) (run : Run) (x : Brought) (h : ℕ) : Type 
   pub steps : h ≤ x .sheet .steps
   -- The walk is open, bears the sheet's number and stands h steps before the last.
   pub walk : end e run .walk ≡ record { «open» = true; number = x .number; position = positionAfter (x .sheet) h }
-  -- Each default leg in the rows is document 01's rule over those h steps, unit for unit.
+  -- Each default leg in the rows is the backward rule's over those h steps, unit for unit.
   pub default-is : AtEveryNode (x .sheet) (λ j k. heldD e run (x .sheet) j k ≡ D (x .sheet) j h (positionAfter (x .sheet) h) k)
   -- So is each premium leg.
   pub premium-is : AtEveryNode (x .sheet) (λ j k. heldA e run (x .sheet) j k ≡ A (x .sheet) j h (positionAfter (x .sheet) h) k)
@@ -84,6 +97,8 @@ pub record WalkAccuracy (e : Engine) (run : Run) (x : Brought) (h : ℕ) : Type 
   pub premiums-add : (second : Run) (y : ℕ) → sheetIn second y .sheet ≡ spanning (x .sheet) → Walked e second y h → (k : ℕ) → k ≤ x .sheet .names →
       Near ((x .sheet .tranches + 1) * (2 * h + dates (x .sheet) h (positionAfter (x .sheet) h)))
       (2 * sumTo (x .sheet .tranches) (λ j. heldA e run (x .sheet) j k)) (2 * heldA e second (spanning (x .sheet)) 0 k)
+  -- Of a sheet whose tranches are the whole pool, they add to the index's too, in these rows.
+  pub premiums-of-index : WholePool (x .sheet) → IndexAccuracy e run (x .sheet) h
 
 -- A refusal by 9, withdrawn, or by what the call checks before it.
 pub record EarlyRefusal (said : Said) : Type 0 where

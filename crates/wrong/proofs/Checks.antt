@@ -205,6 +205,7 @@ none-checks =
       premiums-unseen = record { back = ruled-out refl; value = ruled-out refl; ratio = ruled-out refl };
       ceiling-without-loss = record { back = ruled-out refl; value = ruled-out refl; ratio = ruled-out refl };
       index-ceiling-without-loss = record { back = ruled-out refl; value = ruled-out refl; ratio = ruled-out refl };
+      ceiling-of-outstanding = record { back = ruled-out refl; value = ruled-out refl; ratio = ruled-out refl };
       ceiling-of-all-accruals = record { back = ruled-out refl; value = ruled-out refl; ratio = ruled-out refl };
       back-more = ruled-out refl;
       forward-most-refused = ruled-out refl;

@@ -4,7 +4,7 @@ use mathlib.Core.Bool.{false}
 use Rattle.tree.specs.Sheet.{spanning}
 use Rattle.refusals.proofs.Limits.{limits}
 use Rattle.walk.specs.Power.{registerAfterCut, eventLeaves, withdrew, stateAfterEvents, everWithdrew}
-use Rattle.wrong.specs.Examples.{deck as deckCatalogue, parted, answersOf, Deck, TranchesAdd, Refusals, Ratios, Cuts}
+use Rattle.wrong.specs.Examples.{deck as deckCatalogue, parted, topped, answersOf, Deck, TranchesAdd, IndexAdds, Refusals, Ratios, Cuts}
 use Rattle.wrong.proofs.Computing.{computed}
 
 pub deck : Deck
@@ -31,6 +31,17 @@ additive =
       parted-rows = refl;
       whole-rows = refl;
       defaults = refl;
+      premiums = refl;
+    }
+
+pub index-adds : IndexAdds
+unfolding computed
+index-adds =
+    record {
+      within = limits (topped .sheet 7) false .0 refl .0;
+      points = record { first = refl; last = refl };
+      walked = record { opened = refl; walked = refl; own = refl };
+      rows = refl;
       premiums = refl;
     }
 

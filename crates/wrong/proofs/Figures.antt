@@ -19,8 +19,8 @@ use Rattle.walk.specs.Engine.{Engine}
 use Rattle.walk.specs.CallLists.{ownRows, otherRows, issue, opening, back, Catalogue, Run, end, afterWalkCall, callResult, answers}
 use Rattle.walk.specs.Liveness.{CallRule}
 use Rattle.walk.specs.Promise.{Rules, Demand3, blankRun}
-use Rattle.wrong.specs.Examples.{catalogueOf, constantRows, deck, used, toRoot, parted, whole, elsewhere, live, walkAt}
-use Rattle.wrong.specs.Figures.{rowBy, distributionBy, recoveryIgnored, discountBefore, accrualBefore, premiumEveryStep, movesExchanged, hazardOfNext, pastLastCount, legsExchanged, defaultUnpaid, defaultInPremiums, premiumInDefaults, lowerIgnored, lossUncapped, lossRoundedUp, indexRoundedDown, premiumAfterRoll, premiumAfterChance, netFactorShort, netLegsExchanged, netReversed, defaultForPremium, lossReversed, defaultReversed, premiumReversed, premiumLeftOut, trancheCoupon, tenThousandths, halfToEven, movesDown, halfMovesDown, movesPastLast, movesLost, nothingMoves, fromLentRow, NoneFigures, Unchanged, unitsCatalogue, FactorNeeded, NamesNeeded}
+use Rattle.wrong.specs.Examples.{catalogueOf, constantRows, deck, used, toRoot, parted, whole, topped, elsewhere, live, walkAt}
+use Rattle.wrong.specs.Figures.{rowBy, distributionBy, recoveryIgnored, discountBefore, accrualBefore, premiumEveryStep, movesExchanged, hazardOfNext, pastLastCount, legsExchanged, defaultUnpaid, defaultInPremiums, premiumInDefaults, lowerIgnored, lossUncapped, lossRoundedUp, indexRoundedDown, indexByNames, topNotShrunk, shrunkFromBelow, recoveredFromEach, recoveryRoundedUp, premiumAfterRoll, premiumAfterChance, netFactorShort, netLegsExchanged, netReversed, defaultForPremium, lossReversed, defaultReversed, premiumReversed, premiumLeftOut, trancheCoupon, tenThousandths, halfToEven, movesDown, halfMovesDown, movesPastLast, movesLost, nothingMoves, fromLentRow, NoneFigures, Unchanged, unitsCatalogue, FactorNeeded, sliversCatalogue, IndexFactorNeeded, NamesNeeded}
 use Rattle.wrong.proofs.Computing.{computed}
 use Rattle.wrong.proofs.Refuted.{figure, found, back-step, sheet}
 
@@ -98,6 +98,26 @@ not-lossRoundedUp d = omega (arith, by-one d whole 8 refl .default 1 2 (lit≤ t
 not-indexRoundedDown : Demand3 indexRoundedDown → ⊥
 unfolding computed rowBy
 not-indexRoundedDown d = omega (arith, by-one d whole 8 refl .premium 1 0 (lit≤ tt) (lit≤ tt))
+
+not-indexByNames : Demand3 indexByNames → ⊥
+unfolding computed rowBy
+not-indexByNames d = omega (arith, by-one d topped 12 refl .premium 2 0 (lit≤ tt) (lit≤ tt))
+
+not-topNotShrunk : Demand3 topNotShrunk → ⊥
+unfolding computed rowBy
+not-topNotShrunk d = omega (arith, by-one d topped 12 refl .premium 1 0 (lit≤ tt) (lit≤ tt))
+
+not-shrunkFromBelow : Demand3 shrunkFromBelow → ⊥
+unfolding computed rowBy
+not-shrunkFromBelow d = omega (arith, by-one d topped 12 refl .premium 1 0 (lit≤ tt) (lit≤ tt))
+
+not-recoveredFromEach : Demand3 recoveredFromEach → ⊥
+unfolding computed rowBy
+not-recoveredFromEach d = omega (arith, by-one d topped 12 refl .premium 0 0 (lit≤ tt) (lit≤ tt))
+
+not-recoveryRoundedUp : Demand3 recoveryRoundedUp → ⊥
+unfolding computed rowBy
+not-recoveryRoundedUp d = omega (arith, by-one d topped 12 refl .premium 1 0 (lit≤ tt) (lit≤ tt))
 
 not-premiumAfterRoll : Demand3 premiumAfterRoll → ⊥
 unfolding computed rowBy
@@ -213,6 +233,11 @@ none-figures =
       loss-uncapped = not-lossUncapped;
       loss-rounded-up = not-lossRoundedUp;
       index-rounded-down = not-indexRoundedDown;
+      index-by-names = not-indexByNames;
+      top-not-shrunk = not-topNotShrunk;
+      shrunk-from-below = not-shrunkFromBelow;
+      recovered-from-each = not-recoveredFromEach;
+      recovery-rounded-up = not-recoveryRoundedUp;
       premium-after-roll = not-premiumAfterRoll;
       premium-after-chance = not-premiumAfterChance;
       net-factor-short = not-netFactorShort;
@@ -236,7 +261,7 @@ none-figures =
 
 pub unchanged : Unchanged
 unfolding computed rowBy distributionBy
-unchanged = record { sheet = refl; chances = refl; legs = refl; losses = refl; nets = refl; jumps = refl; sizes = refl; moves = refl }
+unchanged = record { sheet = refl; chances = refl; legs = refl; losses = refl; losses-at-the-top = refl; outstandings = refl; index = refl; tranches = refl; nets = refl; jumps = refl; sizes = refl; moves = refl }
 
 -- ---- bounds
 
@@ -249,6 +274,17 @@ factor-needed =
       spanned-walked = record { opened = refl; walked = refl; own = refl };
       dates = refl;
       defaults = λ n. le→leb _ _ (n .below);
+      premiums = λ n. le→leb _ _ (n .below);
+    }
+
+pub index-factor-needed : IndexFactorNeeded
+unfolding computed sumTo
+index-factor-needed =
+    record {
+      within = limits (sliversCatalogue .sheet 5) false .0 refl .0;
+      points = record { first = refl; last = refl };
+      walked = record { opened = refl; walked = refl; own = refl };
+      dates = refl;
       premiums = λ n. le→leb _ _ (n .below);
     }
 

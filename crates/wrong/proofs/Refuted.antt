@@ -223,7 +223,7 @@ not-countBefore d = le→leb _ _ (found d deck (opened (back 7 ownRows 1 ∷ [])
 not-premiumRoundedDown : Demand3 premiumRoundedDown → ⊥
 unfolding computed
 not-premiumRoundedDown d =
-    omega (arith, back-step unevenPool 2 _ _ (d whole used openedPool .serves .ruled (back 7 ownRows 1) .does refl .rows) .premium 1 0 (lit≤ tt) (lit≤ tt))
+    omega (arith, back-step unevenPool 2 _ _ (d whole used openedPool .serves .ruled (back 7 ownRows 1) .does refl .rows) .premium 1 2 (lit≤ tt) (lit≤ tt))
 
 not-indexByLoss : Demand3 indexByLoss → ⊥
 unfolding computed

@@ -13,7 +13,7 @@ use Rattle.register.specs.declared.answers.Status.{Status}
 use Rattle.register.specs.Register.{statusIn}
 use Rattle.register.specs.Events.{blankRegister}
 use Rattle.sheet.specs.Terms.{Terms, sumOf}
-use Rattle.tree.specs.Sheet.{widthOf, defaultMost, premiumMost}
+use Rattle.tree.specs.Sheet.{widthOf, outstandingOf, defaultMost, premiumMost}
 use Rattle.rows.specs.Tables.{tab, any}
 use Rattle.rows.specs.Rows.{anyOver, soiled, distributionRow, Rows, rowsOf}
 use Rattle.sheet.specs.Brought.{Brought, brought}
@@ -313,6 +313,10 @@ trancheUnlost x j k = cond (ltb j (x .tranches)) (widthOf x j) (defaultMost x j 
 abbrev pub indexUnlost : Terms → ℕ → ℕ → ℕ
 indexUnlost x j k = cond (ltb j (x .tranches)) (defaultMost x j k) (widthOf x j)
 
+-- What a tranche has outstanding.
+abbrev pub trancheLeft : Terms → ℕ → ℕ → ℕ
+trancheLeft x j k = cond (ltb j (x .tranches)) (outstandingOf x j k) (defaultMost x j k)
+
 abbrev pub stepsTo : (Inputs → ℕ) → SheetCall → Engine
 stepsTo most = tested 13 (λ a. ltb (most a) (a .steps))
 
@@ -348,11 +352,14 @@ nearScale =
     inputs (terms 1_000_000_000 0 200_000 0 1 (1_000_000_000 ∷ []) 1) live (walkAt 0)
     (rowsOf (100_000 ∷ 0 ∷ 0 ∷ 0 ∷ []) (0 ∷ 0 ∷ 1_000_001 ∷ 0 ∷ [])) [] 0 0 0
 
--- By back, value and hedge ratio, each with the fault in itself.
-pub record ByWalking (e : SheetCall → Engine) (w : Walk) (l : Rows) (n : ℕ) : Type 0 where
-  pub back : RuledOut (e Back) (answered Back (small w l 0 0 0)) n
-  pub value : RuledOut (e Value) (answered Value (small w l 0 0 0)) n
-  pub ratio : RuledOut (e Ratio) (answered Ratio (small w l 0 0 0)) n
+-- By back, value and hedge ratio, each with the fault in itself; and on the small sheet.
+pub record ByWalkCalls (e : SheetCall → Engine) (a : Inputs) (n : ℕ) : Type 0 where
+  pub back : RuledOut (e Back) (answered Back a) n
+  pub value : RuledOut (e Value) (answered Value a) n
+  pub ratio : RuledOut (e Ratio) (answered Ratio a) n
+
+abbrev pub ByWalking : (SheetCall → Engine) → Walk → Rows → ℕ → Type 0
+ByWalking e w l n = ByWalkCalls e (small w l 0 0 0) n
 
 -- By one of them at the last step, or by forward, with operands.
 abbrev pub By : SheetCall → (SheetCall → Engine) → ℕ → ℕ → ℕ → ℕ → Type 0
@@ -457,6 +464,9 @@ pub record NoneChecks : Type 0 where
   pub premiums-unseen : ByWalking premiumsUnseen (walkAt 1) (rowsOf (replicate 4 0) (1 ∷ 0 ∷ 0 ∷ 0 ∷ [])) 12
   pub ceiling-without-loss : ByWalking (ceilingsTo trancheUnlost premiumMost) (walkAt 1) (rowsOf (0 ∷ 1 ∷ 0 ∷ 0 ∷ []) (replicate 4 0)) 12
   pub index-ceiling-without-loss : ByWalking (ceilingsTo indexUnlost premiumMost) (walkAt 1) (rowsOf (0 ∷ 0 ∷ 0 ∷ 1 ∷ []) (replicate 4 0)) 12
+  -- What a tranche has outstanding in place of what it has left to lose, where all but a unit is recovered: nothing, and all but a unit.
+  pub ceiling-of-outstanding : ByWalkCalls (ceilingsTo trancheLeft premiumMost)
+      (inputs (terms 999_999_999 0 1_000_000_000 0 1 (1 ∷ []) 0) live (walkAt 1) (rowsOf (0 ∷ 1 ∷ 0 ∷ 0 ∷ []) (replicate 4 0)) (0 ∷ 0 ∷ []) 0 0 0) 0
   pub ceiling-of-all-accruals : ByWalking (ceilingsTo defaultMost (λ x i k. sumOf (x .accruals))) (walkAt 1)
       (rowsOf (replicate 4 0) (1 ∷ 0 ∷ 0 ∷ 0 ∷ [])) 12
   -- 13, 14 and 16

@@ -9,8 +9,8 @@ use lib.IntN.{pos, negsuc}
 use Rattle.register.specs.Cut.{mayBeLeft}
 use Rattle.register.specs.Events.{blankRegister}
 use Rattle.sheet.specs.Terms.{Terms}
-use Rattle.tree.specs.Sheet.{spanning}
-use Rattle.tree.specs.Trials.{worked, unevenPool}
+use Rattle.tree.specs.Sheet.{WholePool, spanning}
+use Rattle.tree.specs.Trials.{worked, unevenPool, toppedPool}
 use Rattle.sheet.specs.Brought.{Brought, brought}
 use Rattle.sheet.specs.Limits.{Limits}
 use Rattle.walk.specs.declared.Walk.{Walk}
@@ -145,6 +145,24 @@ pub record TranchesAdd : Type 0 where
       ≡ heldD ours wholeRun unevenPool 0 0
   pub premiums : heldA ours partedRun (parted .sheet 5 .sheet) 0 0 + heldA ours partedRun (parted .sheet 5 .sheet) 1 0
       ≡ heldA ours wholeRun unevenPool 0 0 + 3
+
+-- ---- two tranches of the whole pool beside the index
+
+abbrev pub topped : Catalogue
+topped = catalogueOf (toppedPool 350_000_000 300_000_000) (0 ∷ 0 ∷ 0 ∷ [])
+
+abbrev pub toppedRun : Run
+toppedRun = blankRun topped used (issue 7 ∷ opening 7 (otherRows (constantRows 12 0)) ∷ back 7 ownRows 1 ∷ [])
+
+-- A default comes for sure, so each entry is what is outstanding at the next count.
+pub record IndexAdds : Type 0 where
+  pub within : Limits (topped .sheet 7)
+  pub points : WholePool (topped .sheet 7 .sheet)
+  pub walked : Walked ours toppedRun 7 1
+  pub rows : end ours toppedRun .rows .premiums
+      ≡ 83_333_334 ∷ 0 ∷ 0 ∷ 0 ∷ 583_333_334 ∷ 333_333_334 ∷ 0 ∷ 0 ∷ 666_666_668 ∷ 333_333_334 ∷ 0 ∷ 0 ∷ []
+  pub premiums : heldA ours toppedRun (topped .sheet 7 .sheet) 0 0 + heldA ours toppedRun (topped .sheet 7 .sheet) 1 0
+      ≡ heldA ours toppedRun (topped .sheet 7 .sheet) 2 0
 
 -- ---- refusals
 

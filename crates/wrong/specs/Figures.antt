@@ -11,16 +11,16 @@ use Rattle.cash.specs.declared.Node.{Node}
 use Rattle.cash.specs.Units.{B, half}
 use Rattle.cash.specs.Near.{Near}
 use Rattle.cash.specs.Sums.{sumTo}
-use Rattle.cash.specs.Losses.{trancheLoss, indexOutstanding}
+use Rattle.cash.specs.Losses.{trancheLoss, trancheRecovery, trancheOutstanding, indexOutstanding}
 use Rattle.cash.specs.Hedges.{netValue, changeOf, jumpOf, negative, unlike, withSign, millionths, ratioOf}
 use Rattle.tree.specs.Paths.{survive, default}
 use Rattle.tree.specs.Backward.{rollNode, Leg}
 use Rattle.tree.specs.Legs.{defaultLeg, premiumLeg}
 use Rattle.sheet.specs.Terms.{Terms}
-use Rattle.tree.specs.Sheet.{hazardOf, discountOf, accrualOf, poolLossOf, lossOf, widthOf, outstandingOf, treeOf, defaultOf, premiumOf, dates}
-use Rattle.tree.specs.Sheet.{spanning}
+use Rattle.tree.specs.Sheet.{hazardOf, discountOf, accrualOf, poolLossOf, poolRecoveryOf, lossOf, widthOf, outstandingOf}
+use Rattle.tree.specs.Sheet.{treeOf, defaultOf, premiumOf, dates, WholePool, spanning}
 use Rattle.tree.specs.Forward.{same, outflow, fromBelow, pushed, errors}
-use Rattle.tree.specs.Trials.{units, drifting}
+use Rattle.tree.specs.Trials.{units, slivers, drifting}
 use Rattle.rows.specs.Tables.{tab}
 use Rattle.rows.specs.Rows.{nodeIn, rowOf, rolled, Rows}
 use Rattle.sheet.specs.Brought.{Brought}
@@ -34,7 +34,7 @@ use Rattle.walk.specs.CallLists.{ownRows as sameRows, otherRows, issue, opening
 use Rattle.walk.specs.Accuracy.{Walked, heldD, heldA}
 use Rattle.walk.specs.Promise.{Rules, Demand3, blankRun}
 use Rattle.wrong.specs.Substitutes.{withSaid, byAnswer, valueBy, forwardBy, backRows, backNodes, valueNets, ratioOfRows}
-use Rattle.wrong.specs.Examples.{catalogueOf, constantRows, used, deck, root, ratioOn, whole, wholeRun}
+use Rattle.wrong.specs.Examples.{catalogueOf, constantRows, used, deck, root, ratioOn, whole, wholeRun, toppedRun}
 
 -- ---- back: both rows by other steps
 
@@ -140,7 +140,11 @@ premiumInDefaults = backLegs (λ x j. besides (defaultOf x j) (premiumOf x j)) p
 abbrev backLosses : (Terms → ℕ → ℕ → ℕ) → Engine
 backLosses M =
     backLegs (λ x j. defaultLeg (M x j))
-    (λ x j. premiumLeg (accrualOf x) (λ k. cond (ltb j (x .tranches)) (widthOf x j - M x j k) (indexOutstanding (x .names) k)))
+    (λ x j.
+    premiumLeg (accrualOf x) (λ k.
+    cond (ltb j (x .tranches))
+    (widthOf x j - M x j k - trancheRecovery (getD (x .attachments) j 0) (getD (x .attachments) (suc j) 0) (poolRecoveryOf x k))
+    (outstandingOf x j k)))
 
 -- A tranche's loss measured from 0.
 abbrev pub lowerIgnored : Engine
@@ -159,11 +163,51 @@ lossRoundedUp =
     backLosses (λ x j k.
     cond (ltb j (x .tranches)) (trancheLoss (getD (x .attachments) j 0) (getD (x .attachments) (suc j) 0) (lossUp x k)) (lossUp x k))
 
--- O(k) of the index rounded down.
+-- O(k) by another rule.
+abbrev backOutstandings : (Terms → ℕ → ℕ → ℕ) → Engine
+backOutstandings O = backLegs defaultOf (λ x j. premiumLeg (accrualOf x) (O x j))
+
+-- O(k) of the index alone by another rule.
+abbrev backIndex : (Terms → ℕ → ℕ) → Engine
+backIndex O = backOutstandings (λ x j k. cond (ltb j (x .tranches)) (outstandingOf x j k) (O x k))
+
+-- Rounded down.
 abbrev pub indexRoundedDown : Engine
-indexRoundedDown =
-    backLegs defaultOf (λ x j.
-    premiumLeg (accrualOf x) (λ k. cond (ltb j (x .tranches)) (outstandingOf x j k) ((x .names - k) * B / x .names)))
+indexRoundedDown = backIndex (λ x k. (x .names - k) * B / x .names)
+
+-- By the names that have not defaulted, with one rounding in place of two: the rule before T-12.
+abbrev pub indexByNames : Engine
+indexByNames = backIndex (λ x k. B - k * B / x .names)
+
+-- O(k) of the tranches alone, by another rule of their points, L(k) and Z(k).
+abbrev backTranches : (ℕ → ℕ → ℕ → ℕ → ℕ) → Engine
+backTranches O =
+    backOutstandings (λ x j k.
+    cond (ltb j (x .tranches))
+    (O (getD (x .attachments) j 0) (getD (x .attachments) (suc j) 0) (poolLossOf x k) (poolRecoveryOf x k)) (outstandingOf x j k))
+
+-- Recoveries leave the top as it is: the rule before T-12.
+abbrev pub topNotShrunk : Engine
+topNotShrunk = backTranches (λ lower upper loss recovered. upper - lower - trancheLoss lower upper loss)
+
+-- They come off the bottom, as losses do.
+abbrev pub shrunkFromBelow : Engine
+shrunkFromBelow = backTranches (λ lower upper loss recovered. upper - lower - trancheLoss lower upper loss - trancheLoss lower upper recovered)
+
+-- They come off every tranche.
+abbrev pub recoveredFromEach : Engine
+recoveredFromEach = backTranches (λ lower upper loss recovered. upper - lower - trancheLoss lower upper loss - recovered)
+
+-- Z(k) rounded up.
+abbrev recoveryUp : Terms → ℕ → ℕ
+recoveryUp x k = (k * x .recovery + pred (x .names)) / x .names
+
+abbrev pub recoveryRoundedUp : Engine
+recoveryRoundedUp =
+    backOutstandings (λ x j k.
+    cond (ltb j (x .tranches))
+    (trancheOutstanding (getD (x .attachments) j 0) (getD (x .attachments) (suc j) 0) (poolLossOf x k) (recoveryUp x k))
+    (indexOutstanding (poolLossOf x k) (recoveryUp x k)))
 
 -- The chance of a step on two figures, without its discount.
 abbrev weighed : Terms → ℕ → ℕ → ℕ → ℕ → ℕ
@@ -327,6 +371,11 @@ pub record NoneFigures : Type 0 where
   pub loss-uncapped : Demand3 lossUncapped → ⊥
   pub loss-rounded-up : Demand3 lossRoundedUp → ⊥
   pub index-rounded-down : Demand3 indexRoundedDown → ⊥
+  pub index-by-names : Demand3 indexByNames → ⊥
+  pub top-not-shrunk : Demand3 topNotShrunk → ⊥
+  pub shrunk-from-below : Demand3 shrunkFromBelow → ⊥
+  pub recovered-from-each : Demand3 recoveredFromEach → ⊥
+  pub recovery-rounded-up : Demand3 recoveryRoundedUp → ⊥
   pub premium-after-roll : Demand3 premiumAfterRoll → ⊥
   pub premium-after-chance : Demand3 premiumAfterChance → ⊥
   pub net-factor-short : Demand3 netFactorShort → ⊥
@@ -349,12 +398,16 @@ pub record NoneFigures : Type 0 where
 
 -- ---- the families with nothing changed
 
--- Each is ours on the uneven pool or the deck, so that the fault of an engine above is the one it is named for.
+-- Each is ours on the uneven pool, the deck or the pool that is recovered from, so that the fault of an engine above is the one it is named for.
 pub record Unchanged : Type 0 where
   pub sheet : end (backOn (λ x. x)) wholeRun ≡ end ours wholeRun
   pub chances : end (backChances (λ x. hazardOf x 0)) wholeRun ≡ end ours wholeRun
   pub legs : end (backLegs defaultOf premiumOf) wholeRun ≡ end ours wholeRun
   pub losses : end (backLosses lossOf) wholeRun ≡ end ours wholeRun
+  pub losses-at-the-top : end (backLosses lossOf) toppedRun ≡ end ours toppedRun
+  pub outstandings : end (backOutstandings outstandingOf) toppedRun ≡ end ours toppedRun
+  pub index : end (backIndex (λ x. outstandingOf x (x .tranches))) toppedRun ≡ end ours toppedRun
+  pub tranches : end (backTranches trancheOutstanding) toppedRun ≡ end ours toppedRun
   pub nets : valueNets (λ x j d a. netValue d (getD (x .coupons) j 0) a) .value (deck .sheet 7) (root .register) (root .walk) (root .rows) 0 0
       ≡ ours .value (deck .sheet 7) (root .register) (root .walk) (root .rows) 0 0
   pub jumps : ratioOfJumps jumpOf .ratio (deck .sheet 7) (root .register) (root .walk) (root .rows) 0 0 ≡ ratioOn (root .rows) 0 0
@@ -385,6 +438,20 @@ pub record FactorNeeded : Type 0 where
   pub dates : dates units 1 0 ≡ 1
   pub defaults : ¬ (Near (1 * 1) (sumTo 8 (λ j. heldD ours unitsRun units j 0)) (heldD ours spannedRun (spanning units) 0 0))
   pub premiums : ¬ (Near (1 * 3) (2 * sumTo 8 (λ j. heldA ours unitsRun units j 0)) (2 * heldA ours spannedRun (spanning units) 0 0))
+
+-- The slivers of a whole pool: their premium legs do not add to the index's within one distance, 3 (doubled).
+abbrev pub sliversCatalogue : Catalogue
+sliversCatalogue = catalogueOf slivers (replicate 9 0)
+
+abbrev pub sliversRun : Run
+sliversRun = blankRun sliversCatalogue used (issue 5 ∷ opening 5 (otherRows (constantRows 18 0)) ∷ back 5 sameRows 1 ∷ [])
+
+pub record IndexFactorNeeded : Type 0 where
+  pub within : Limits (sliversCatalogue .sheet 5)
+  pub points : WholePool slivers
+  pub walked : Walked ours sliversRun 5 1
+  pub dates : dates slivers 1 0 ≡ 1
+  pub premiums : ¬ (Near (1 * 3) (2 * sumTo 8 (λ j. heldA ours sliversRun slivers j 0)) (2 * heldA ours sliversRun slivers 8 0))
 
 -- The errors of a distribution may total more than a unit a step, so that i alone is no bound: it needs a factor.
 pub record NamesNeeded : Type 0 where

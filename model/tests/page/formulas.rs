@@ -4,7 +4,9 @@ use super::worked::{figure, rows_at};
 use super::{between, blocks, cells, ensure, same, says, section, table, Found};
 use crate::arithmetic::{commas, work_out, Ratio};
 use crate::common::{plain_sheet, Random};
-use lavroudem_model::cash::{half, outstanding, pool_loss, premium_payment, tranche_loss, width};
+use lavroudem_model::cash::{
+    half, outstanding, pool_loss, premium_payment, recovered, tranche_loss, tranche_recovery, width,
+};
 use lavroudem_model::sheet::{Sheet, B};
 use lavroudem_model::tree::{
     default_ceiling, default_leg, distribution, jump, net_value, place, premium_leg,
@@ -70,16 +72,18 @@ impl Scene<'_> {
         }
     }
 
-    /// L, M and O past the last count are 0: there p is 0 too.
+    /// These past the last count are 0: there p is 0 too.
     fn at(&self, name: &str, place: usize) -> Option<i128> {
         let (sheet, tranche) = (self.sheet, self.tranche);
-        if place > sheet.names && ["L", "M", "O"].contains(&name) {
+        if place > sheet.names && ["L", "Z", "M", "T", "O"].contains(&name) {
             return Some(0);
         }
         let is_step = (1..=sheet.steps).contains(&place);
         let number = match name {
             "L" => pool_loss(sheet, place),
+            "Z" => recovered(sheet, place),
             "M" => tranche_loss(sheet, tranche, place),
+            "T" => tranche_recovery(sheet, tranche, place),
             "O" => outstanding(sheet, tranche, place),
             "p" if place <= sheet.names => sheet.hazard(place),
             "v" if is_step => sheet.discount(place),
@@ -153,18 +157,25 @@ fn formula<'a>(page: &'a str, left: &str) -> Result<(&'a str, &'a str), String> 
 
 pub fn loss_formulas_are_the_models(page: &str) -> Found {
     let (loss, _) = formula(page, "L(k)")?;
+    let (got, _) = formula(page, "Z(k)")?;
     let rows = table(page, "| | Tranche | Index |")?;
     let signs: Vec<&str> = rows.iter().map(|row| row[0]).collect();
-    same(signs, vec!["width", "M(k)", "O(k)"], "signs")?;
+    same(signs, vec!["width", "M(k)", "T(k)", "O(k)"], "signs")?;
     everywhere(&|scene| {
         let (sheet, tranche, count) = (scene.sheet, scene.tranche, scene.count);
         let of_index = tranche == sheet.index();
-        let [size, lost, left] = [0, 1, 2].map(|row: usize| rows[row][1 + usize::from(of_index)]);
+        let cell = |row: usize| rows[row][1 + usize::from(of_index)];
+        let [size, lost, taken, left] = [0, 1, 2, 3].map(cell);
         let most = width(sheet, tranche) as i128;
         same(
             scene.work_out(loss)?,
             pool_loss(sheet, count) as i128,
             "L(k)",
+        )?;
+        same(
+            scene.work_out(got)?,
+            recovered(sheet, count) as i128,
+            "Z(k)",
         )?;
         same(scene.work_out(size)?, most, "width")?;
         let lost = if of_index {
@@ -173,6 +184,12 @@ pub fn loss_formulas_are_the_models(page: &str) -> Found {
             by_cases(&scene, lost)?
         };
         same(lost, tranche_loss(sheet, tranche, count) as i128, "M(k)")?;
+        let taken = match taken.strip_suffix(", but never below 0 or above the width") {
+            Some(text) => scene.work_out(text)?.clamp(0, most),
+            None => scene.work_out(taken)?,
+        };
+        let right = tranche_recovery(sheet, tranche, count) as i128;
+        same(taken, right, "T(k)")?;
         let right = outstanding(sheet, tranche, count) as i128;
         same(scene.work_out(left)?, right, "O(k)")
     })

@@ -2,7 +2,9 @@
 
 use super::{blocks, ensure, entries, same, says, section, Found};
 use crate::arithmetic::{commas, work_out_plain, Ratio};
-use lavroudem_model::cash::{outstanding, pool_loss, premium_payment, tranche_loss};
+use lavroudem_model::cash::{
+    outstanding, pool_loss, premium_payment, recovered, tranche_loss, tranche_recovery,
+};
 use lavroudem_model::commands::COMMANDS;
 use lavroudem_model::deck::listing;
 use lavroudem_model::exact;
@@ -30,13 +32,28 @@ fn three_names() -> Sheet {
     }
 }
 
+/// The sheet of 'Tranches of the whole pool'.
+fn whole_pool() -> Sheet {
+    Sheet {
+        tranches: 3,
+        recovery: 350_000_000,
+        attachments: vec![0, 300_000_000, 900_000_000, B as u64],
+        coupons: vec![0; 4],
+        ..three_names()
+    }
+}
+
 /// The figures that are worked out, in the page's order.
 const ON_THE_WORKED_DECK: &str = "L(1); O(0) of tranche 0; O(1) of tranche 0; P(2, 0) of tranche 0; \
     P(2, 1) of tranche 0; Y; A(1, 0) of tranche 0; Y; A(1, 1) of tranche 0; Y; A(0, 0) of tranche 0; \
     W(0, 0) of tranche 0; Q(1, 0); Q(1, 1); Q(2, 0); Q(2, 1); Q(2, 2)";
 
+const ON_THE_WHOLE_POOL: &str =
+    "L(1); Z(1); T(1) of tranche 2; O(1) of tranche 2; T(1) of tranche 1; \
+    O(1) of tranche 1; O(1) of tranche 0; O(1) of the index";
+
 const ON_THREE_NAMES: &str = "L(1); L(2); M(1) of tranche 0; M(2) of tranche 0; O(1) of tranche 0; \
-    O(1) of the index; Y; D(0, 0) of the index; exact D(0, 0) of the index; P(1, 0) of tranche 0; \
+    Z(1); O(1) of the index; Y; D(0, 0) of the index; exact D(0, 0) of the index; P(1, 0) of tranche 0; \
     P(1, 1) of tranche 0; Y; A(0, 0) of tranche 0; exact A(0, 0) of tranche 0; Y; D(0, 0) of tranche 0; \
     W(0, 0) of tranche 0; Y; A(0, 0) of the index; Y; D(0, 1) of tranche 0; Y; A(0, 1) of tranche 0; Y; \
     D(0, 1) of the index; Y; A(0, 1) of the index; J(0, 0) of tranche 0; J(0, 0) of the index; \
@@ -53,6 +70,11 @@ pub fn worked_arithmetic_is_right(page: &str) -> Found {
             "### Three names: where rounding shows",
             three_names(),
             ON_THREE_NAMES,
+        ),
+        (
+            "### Tranches of the whole pool: recoveries off the top",
+            whole_pool(),
+            ON_THE_WHOLE_POOL,
         ),
     ];
     for (heading, sheet, figures) in parts {
@@ -82,7 +104,7 @@ fn known_numbers(sheet: &Sheet) -> BTreeSet<i128> {
     for &number in lists.into_iter().flatten().chain([&sheet.recovery]) {
         known.extend([i128::from(number), b - i128::from(number)]);
     }
-    for name in ["L", "M", "O", "P", "D", "A", "W", "J", "Q"] {
+    for name in ["L", "Z", "M", "T", "O", "P", "D", "A", "W", "J", "Q"] {
         for position in 0..=sheet.steps {
             for count in 0..=sheet.names {
                 let at = |tranche| figure(sheet, name, (position, tranche, count));
@@ -152,9 +174,10 @@ fn literals(text: &str) -> Vec<&str> {
 /// Compares a figure such as `A(1, 0) of tranche 0`, or an exact one.
 fn same_figure(sheet: &Sheet, label: &str, value: Ratio) -> Found {
     let (head, subject) = label.split_once(" of ").unwrap_or((label, "tranche 0"));
-    let tranche = match subject {
-        "tranche 0" => 0,
-        "the index" => sheet.index(),
+    let number = subject.strip_prefix("tranche ").map(str::parse::<usize>);
+    let tranche = match (subject, number) {
+        ("the index", _) => sheet.index(),
+        (_, Some(Ok(tranche))) if tranche < sheet.tranches => tranche,
         _ => return Err(format!("no tranche: {subject}")),
     };
     let (name, places) = head.split_once('(').ok_or(format!("no figure: {head}"))?;
@@ -180,7 +203,9 @@ pub fn figure(sheet: &Sheet, name: &str, (i, j, k): (usize, usize, usize)) -> Op
     let rows = || rows_at(sheet, i);
     let figure = match name {
         "L" => pool_loss(sheet, k) as i128,
+        "Z" => recovered(sheet, k) as i128,
         "M" => tranche_loss(sheet, j, k) as i128,
+        "T" => tranche_recovery(sheet, j, k) as i128,
         "O" => outstanding(sheet, j, k) as i128,
         "P" if i > 0 => premium_payment(sheet, j, i, k) as i128,
         "D" => default_leg(sheet, &rows(), j, k) as i128,
@@ -248,6 +273,14 @@ pub fn three_names_are_described(page: &str) -> Found {
         format!("The sheet of three names, with the number {number}."),
     ];
     said.iter().try_for_each(|said| says(page, said))
+}
+
+pub fn whole_pool_is_described(page: &str) -> Found {
+    let sheet = whole_pool();
+    let points = list(&sheet.attachments, " to ");
+    let recovery = commas(sheet.recovery.into());
+    let said = format!("Three names, recovery {recovery}, tranches of {points}: the whole pool.");
+    says(page, &said)
 }
 
 /// Each line of the page's deck has the offset, the bytes and the command.

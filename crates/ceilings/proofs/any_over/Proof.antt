@@ -36,11 +36,11 @@ start o = o .before .before .before .before .before
 abbrev outer : tie.After-upper-of Inv-loop μ-loop Inv-search μ-search → tie.At-search Inv-loop μ-loop Inv-search μ-search
 outer u = u .before .before .before
 
-abbrev turn : tie.After-tranche-outstanding Inv-loop μ-loop Inv-search μ-search → tie.In-loop Inv-loop μ-loop Inv-search μ-search
+abbrev turn : tie.After-left-to-lose Inv-loop μ-loop Inv-search μ-search → tie.In-loop Inv-loop μ-loop Inv-search μ-search
 turn l = l .before .before
 
 abbrev left-known : tie.After-shared-slice-known7 Inv-loop μ-loop Inv-search μ-search →
-    tie.After-tranche-outstanding Inv-loop μ-loop Inv-search μ-search
+    tie.After-left-to-lose Inv-loop μ-loop Inv-search μ-search
 left-known p = p .before .before .before
 
 search-holds : tie.Need-search-holds Inv-loop μ-loop Inv-search μ-search
@@ -87,22 +87,22 @@ module _ (c : tie.In-loop Inv-loop μ-loop Inv-search μ-search) where
   long : length (whose .args .losses .now) ≡ suc (whose .args .pool .names)
   long = ap length (whose .pre .0 .1) ∙ losses-long (whose .args .pool .names) (whose .args .pool .recovery)
 
-mul-tranche-outstanding : tie.Need-mul-tranche-outstanding Inv-loop μ-loop Inv-search μ-search
-mul-tranche-outstanding c = omega (arith, whose c .pre .0 .0 .pool .names)
+mul-left-to-lose : tie.Need-mul-left-to-lose Inv-loop μ-loop Inv-search μ-search
+mul-left-to-lose c = omega (arith, whose c .pre .0 .0 .pool .names)
 
-shared-slice-read-tranche-outstanding : tie.Need-shared-slice-read-tranche-outstanding Inv-loop μ-loop Inv-search μ-search
-shared-slice-read-tranche-outstanding c = omega (arith, long (c .before))
+shared-slice-read-left-to-lose : tie.Need-shared-slice-read-left-to-lose Inv-loop μ-loop Inv-search μ-search
+shared-slice-read-left-to-lose c = omega (arith, long (c .before))
 
-tranche-outstanding-requires : tie.Need-tranche-outstanding-requires Inv-loop μ-loop Inv-search μ-search
-tranche-outstanding-requires c κs =
+left-to-lose-requires : tie.Need-left-to-lose-requires Inv-loop μ-loop Inv-search μ-search
+left-to-lose-requires c κs =
     let i = c .before in
     omega (arith, points i .before .lower-of .ensures, points i .upper-of .ensures, points-rise (x i) (whose i .pre .0 .0) (j i))
 
 -- what the tranche has left to lose
-left-is : (c : tie.After-tranche-outstanding Inv-loop μ-loop Inv-search μ-search) → c .tranche-outstanding .result ≡ defaultMost (x (turn c)) (j (turn c)) (k (turn c))
+left-is : (c : tie.After-left-to-lose Inv-loop μ-loop Inv-search μ-search) → c .left-to-lose .result ≡ defaultMost (x (turn c)) (j (turn c)) (k (turn c))
 left-is c =
     let i = turn c in
-    ceiling-read (x i) (j i) (k i) _ _ _ _ (omega arith) (points i .before .lower-of .ensures) (points i .upper-of .ensures) (whose i .pre .0 .1) (c .tranche-outstanding .ensures)
+    ceiling-read (x i) (j i) (k i) _ _ _ _ (omega arith) (points i .before .lower-of .ensures) (points i .upper-of .ensures) (whose i .pre .0 .1) (c .left-to-lose .ensures)
 
 mul-if1 : tie.Need-mul-if1 Inv-loop μ-loop Inv-search μ-search
 mul-if1 c = omega (arith, small (turn c))
@@ -181,9 +181,9 @@ any-over-spec =
     lower-of-requires
     upper-of-requires
     loop-holds
-    mul-tranche-outstanding
-    shared-slice-read-tranche-outstanding
-    tranche-outstanding-requires
+    mul-left-to-lose
+    shared-slice-read-left-to-lose
+    left-to-lose-requires
     mul-if1
     shared-slice-read-if1
     mul-if2
