@@ -21,7 +21,7 @@ pub record Distance (x : Terms) : Type 0 where
   pub premium : (j h i k : ℕ) → k ≤ x .names →
       Near ((2 * h + dates x h i) * B ^ (2 * h + 1)) (2 * (A x j h i k * B ^ (2 * h + 1))) (2 * exactA x j h i k)
 
--- Where the tranches are the whole pool, their premium legs add to the index's, tranche r of the same sheet, within r + 1 times the distance (doubled).
+-- Where the tranches are the whole pool, their premium legs add to the index's, tranche r of the sheet, within r + 1 times the distance (doubled).
 abbrev pub IndexPremiumsAdd : Terms → ℕ → ℕ → ℕ → Type 0
 IndexPremiumsAdd x h i k =
     Near ((x .tranches + 1) * (2 * h + dates x h i)) (2 * sumTo (x .tranches) (λ j. A x j h i k)) (2 * A x (x .tranches) h i k)

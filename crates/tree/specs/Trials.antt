@@ -179,7 +179,7 @@ pub record Recoveries : Type 0 where
   pub all-default : D (toppedPool 1_000_000_000 300_000_000) 2 1 0 0 ≡ 0
 
 -- What is owed between tranches, and of a distribution, where less would be false: the D of the eight units add to 8 and their A to 8,
--- beside 4 and 2 of the one that spans them; the A of the slivers add to 5 units more than the index's; and the errors of three steps total 3.3 units.
+-- beside 4 and 2 of the one that spans them; the A of the slivers add to 5 more than the index's; and the errors of three steps total 3.3 units.
 pub record Bounds : Type 0 where
   pub defaults-add : DefaultsAdd units 1 0 0
   pub premiums-add : PremiumsAdd units 1 0 0
