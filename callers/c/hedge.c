@@ -10,11 +10,12 @@
 
 #include "lavroudem.h"
 
-enum { NAMES = 2, STEPS = 2, TRANCHES = 1, NUMBER = 7 };
+enum { NAMES = 2, STEPS = 2, TRANCHES = 1, PERIODS = 1, NUMBER = 7 };
 enum { ROW = (TRANCHES + 1) * (NAMES + 1) };
 
-static const uint64_t numbers[LAVROUDEM_NUMBERS(NAMES, STEPS, TRANCHES)] = {
+static const uint64_t numbers[LAVROUDEM_NUMBERS(NAMES, STEPS, TRANCHES, PERIODS)] = {
     0, 300000000,          /* attachments */
+    1,                     /* starts */
     100000000, 200000000,  /* hazards */
     1000000000, 900000000, /* discounts */
     0, 1000000000,         /* accruals */
@@ -113,8 +114,8 @@ int main(void)
             .number = NUMBER,
         },
     };
-    const size_t laid =
-        lavroudem_lay_out(&desk.sheet, TRANCHES + 1, NAMES, STEPS, STEPS, TRANCHES + 1);
+    const size_t laid = lavroudem_lay_out(
+        &desk.sheet, TRANCHES + 1, PERIODS, PERIODS * NAMES, STEPS, STEPS, TRANCHES + 1);
     if (laid != sizeof numbers / sizeof numbers[0]) {
         fputs("the lists have other lengths than the numbers\n", stderr);
         return EXIT_FAILURE;

@@ -48,13 +48,13 @@ extern "C" {
 
 /*
  * Of this header, raised when a call, a struct or a number in it changes. An
- * archive of another version is not linked: `lavroudem_version_2`, which the
+ * archive of another version is not linked: `lavroudem_version_3`, which the
  * archive of this version alone has, is named by whatever includes this header.
  * `lavroudem_version` answers the archive's version.
  */
-#define LAVROUDEM_VERSION 2
+#define LAVROUDEM_VERSION 3
 uint64_t lavroudem_version(void);
-uint64_t lavroudem_version_2(void);
+uint64_t lavroudem_version_3(void);
 
 #if defined(__has_attribute)
 #if __has_attribute(retain)
@@ -64,7 +64,7 @@ uint64_t lavroudem_version_2(void);
 #ifndef LAVROUDEM_STAYS
 #define LAVROUDEM_STAYS __attribute__((unused, used))
 #endif
-LAVROUDEM_STAYS static uint64_t (*const lavroudem_linked_version)(void) = lavroudem_version_2;
+LAVROUDEM_STAYS static uint64_t (*const lavroudem_linked_version)(void) = lavroudem_version_3;
 
 /* ---- limits */
 
@@ -72,6 +72,7 @@ LAVROUDEM_STAYS static uint64_t (*const lavroudem_linked_version)(void) = lavrou
 #define LAVROUDEM_MAX_NAMES 125
 #define LAVROUDEM_MAX_STEPS 3650
 #define LAVROUDEM_MAX_TRANCHES 8 /* the index not counted */
+#define LAVROUDEM_MAX_PERIODS 16
 #define LAVROUDEM_MAX_ACCRUALS 10000000000 /* their sum */
 #define LAVROUDEM_MAX_COUPON 10000000
 #define LAVROUDEM_MAX_DECK 65536 /* bytes */
@@ -115,6 +116,7 @@ enum lavroudem_refusal {
     LAVROUDEM_REFUSED_LENGTH = 2, /* a list has another length than it should */
     LAVROUDEM_REFUSED_RECOVERY = 3, /* above 1 */
     LAVROUDEM_REFUSED_ATTACHMENTS = 4, /* not strictly rising, or one above 1 */
+    LAVROUDEM_REFUSED_PERIODS = 25, /* starts not strictly rising, not from 1, or one above steps */
     LAVROUDEM_REFUSED_HAZARD = 5, /* one above 1 */
     LAVROUDEM_REFUSED_DISCOUNT = 6, /* one 0 or above 1 */
     LAVROUDEM_REFUSED_ACCRUAL = 7, /* one above 1, their sum above 10, or the last 0 */
@@ -134,13 +136,15 @@ enum lavroudem_refusal {
     LAVROUDEM_REFUSED_TOO_MANY = 20 /* entries of a list, pools, or bytes of a deck */
 };
 
-/* The word that document 01 has for a refusal; "" for a number that is none. */
+/* The word that goes with a refusal; "" for a number that is none. */
 static inline const char *lavroudem_word(unsigned refusal)
 {
     static const char *const words[] = {
         "accepted", "pool", "length", "recovery", "cuts", "hazard", "discount", "accrual",
         "coupon", "withdrawn", "unissued", "no walk", "soiled", "out of steps", "off tree",
         "flat hedge", "off scale", "live", "unknown", "cut short", "too many",
+        "", "", "", "", /* 21 to 24 are none */
+        "periods",
     };
     return refusal < sizeof words / sizeof words[0] ? words[refusal] : "";
 }
@@ -168,16 +172,23 @@ struct lavroudem_span {
 
 /*
  * A sheet. Its numbers are lent beside it, as one list in which each of its
- * five lists has a span:
+ * six lists has a span:
  *   attachments  tranches + 1, rising; tranche j lies between entries j and j + 1
- *   hazards      names; entry k is the chance that a step takes k defaults to k + 1
+ *   starts       1 to LAVROUDEM_MAX_PERIODS, the first 1, rising, none above steps;
+ *                entry p is the first step of period p
+ *   hazards      names for each start, period by period; entry p * names + k is the
+ *                chance in period p that a step takes k defaults to k + 1
  *   discounts    steps; entry i - 1 brings cash from step i to step i - 1
  *   accruals     steps; entry i - 1 is paid at step i, and 0 if that is no premium date
  *   coupons      tranches + 1, that of the index last
+ * The move from step i - 1 to step i goes by the hazards of the period that
+ * holds step i, the last one that starts at i or before. Hazards that stay the
+ * same throughout are one period: its start is 1. periods.c has two.
  */
 struct lavroudem_sheet {
     struct lavroudem_pool pool;
     struct lavroudem_span attachments;
+    struct lavroudem_span starts;
     struct lavroudem_span hazards;
     struct lavroudem_span discounts;
     struct lavroudem_span accruals;
@@ -185,10 +196,11 @@ struct lavroudem_sheet {
 };
 
 /* The numbers of a sheet that is accepted, and of the largest. */
-#define LAVROUDEM_NUMBERS(names, steps, tranches) \
-    (2 * ((tranches) + 1) + (names) + 2 * (steps))
+#define LAVROUDEM_NUMBERS(names, steps, tranches, periods) \
+    (2 * ((tranches) + 1) + (periods) * ((names) + 1) + 2 * (steps))
 #define LAVROUDEM_MAX_NUMBERS \
-    LAVROUDEM_NUMBERS(LAVROUDEM_MAX_NAMES, LAVROUDEM_MAX_STEPS, LAVROUDEM_MAX_TRANCHES)
+    LAVROUDEM_NUMBERS( \
+        LAVROUDEM_MAX_NAMES, LAVROUDEM_MAX_STEPS, LAVROUDEM_MAX_TRANCHES, LAVROUDEM_MAX_PERIODS)
 
 /*
  * Lays the lists out one after the other, in the order of their spans, and
@@ -197,22 +209,24 @@ struct lavroudem_sheet {
  *
  *     const uint64_t numbers[] = {
  *         0, 300000000,                    // attachments, tranches + 1
- *         100000000, 200000000, 300000000, // hazards, names
+ *         1,                               // starts, one for each period
+ *         100000000, 200000000, 300000000, // hazards, names for each start
  *         900000000,                       // discounts, steps
  *         1000000000,                      // accruals, steps
  *         1000000, 500000,                 // coupons, tranches + 1
  *     };
  *     struct lavroudem_sheet sheet = {.pool = {3, 1, 1, 400000000, 7}};
- *     size_t length = lavroudem_lay_out(&sheet, 2, 3, 1, 1, 2);
+ *     size_t length = lavroudem_lay_out(&sheet, 2, 1, 3, 1, 1, 2);
  */
 static inline size_t lavroudem_lay_out(
-    struct lavroudem_sheet *sheet, size_t attachments, size_t hazards, size_t discounts,
-    size_t accruals, size_t coupons)
+    struct lavroudem_sheet *sheet, size_t attachments, size_t starts, size_t hazards,
+    size_t discounts, size_t accruals, size_t coupons)
 {
     struct lavroudem_span *const spans[] = {
-        &sheet->attachments, &sheet->hazards, &sheet->discounts, &sheet->accruals, &sheet->coupons,
+        &sheet->attachments, &sheet->starts, &sheet->hazards,
+        &sheet->discounts, &sheet->accruals, &sheet->coupons,
     };
-    const size_t lengths[] = {attachments, hazards, discounts, accruals, coupons};
+    const size_t lengths[] = {attachments, starts, hazards, discounts, accruals, coupons};
     size_t at = 0;
     for (size_t list = 0; list < sizeof lengths / sizeof lengths[0]; list++) {
         spans[list]->at = at;
@@ -271,7 +285,7 @@ uint8_t lavroudem_withdraw(uint8_t *register_bytes, size_t register_length, uint
  * Starts a walk at the last step, whatever walk is given. Writes zeros to both
  * rows, which may hold anything before. Each row has (tranches + 1) *
  * (names + 1) entries: those of tranche 0 by default count, from 0 to names,
- * then those of tranche 1, and so on, the index last. Refusals 1 to 10.
+ * then those of tranche 1, and so on, the index last. Refusals 1 to 10 and 25.
  */
 struct lavroudem_opened lavroudem_open(
     struct lavroudem_walk walk,
@@ -283,7 +297,7 @@ struct lavroudem_opened lavroudem_open(
 
 /*
  * Takes both rows so many steps back, 0 included, and answers the new
- * position. Writes both rows. Refusals 1 to 13.
+ * position. Writes both rows. Refusals 1 to 13 and 25.
  */
 struct lavroudem_moved lavroudem_back(
     struct lavroudem_walk walk,
@@ -297,7 +311,7 @@ struct lavroudem_moved lavroudem_back(
 /*
  * Answers the default leg, the premium leg and the net value of a tranche,
  * 0 to tranches (the index), at a default count, 0 to names. Writes nothing.
- * Refusals 1 to 12 and 14.
+ * Refusals 1 to 12, 14 and 25.
  */
 struct lavroudem_valued lavroudem_value(
     struct lavroudem_walk walk,
@@ -311,7 +325,7 @@ struct lavroudem_valued lavroudem_value(
 /*
  * Answers how much of the index, in millionths of the whole pool's, hedges
  * the whole tranche against the next default, at a default count below names.
- * Writes nothing. Refusals 1 to 12 and 14 to 16.
+ * Writes nothing. Refusals 1 to 12, 14 to 16 and 25.
  */
 struct lavroudem_hedged lavroudem_hedge_ratio(
     struct lavroudem_walk walk,
@@ -325,7 +339,7 @@ struct lavroudem_hedged lavroudem_hedge_ratio(
 /*
  * Writes to a row of names + 1 entries the chance, in billionths, of each
  * default count after so many steps from no default. It needs no walk.
- * Refusals 1 to 10 and 13.
+ * Refusals 1 to 10, 13 and 25.
  */
 uint8_t lavroudem_forward(
     struct lavroudem_sheet sheet,
@@ -340,7 +354,8 @@ size_t lavroudem_deck_room(size_t deck_length);
 /*
  * Runs a deck on a blank register of its own, writes its listing to the start
  * of `out`, and answers the bytes written. Where `out` is shorter than the
- * room of the deck it writes nothing and answers LAVROUDEM_NO_ROOM.
+ * room of the deck it writes nothing and answers LAVROUDEM_NO_ROOM. A sheet of
+ * a deck has one period.
  */
 #define LAVROUDEM_NO_ROOM SIZE_MAX
 size_t lavroudem_run_deck(const uint8_t *deck, size_t deck_length, uint8_t *out, size_t out_length);
@@ -377,13 +392,14 @@ LAVROUDEM_SIZE(lavroudem_span, 16);
 LAVROUDEM_OFFSET(lavroudem_span, at, 0);
 LAVROUDEM_OFFSET(lavroudem_span, length, 8);
 
-LAVROUDEM_SIZE(lavroudem_sheet, 120);
+LAVROUDEM_SIZE(lavroudem_sheet, 136);
 LAVROUDEM_OFFSET(lavroudem_sheet, pool, 0);
 LAVROUDEM_OFFSET(lavroudem_sheet, attachments, 40);
-LAVROUDEM_OFFSET(lavroudem_sheet, hazards, 56);
-LAVROUDEM_OFFSET(lavroudem_sheet, discounts, 72);
-LAVROUDEM_OFFSET(lavroudem_sheet, accruals, 88);
-LAVROUDEM_OFFSET(lavroudem_sheet, coupons, 104);
+LAVROUDEM_OFFSET(lavroudem_sheet, starts, 56);
+LAVROUDEM_OFFSET(lavroudem_sheet, hazards, 72);
+LAVROUDEM_OFFSET(lavroudem_sheet, discounts, 88);
+LAVROUDEM_OFFSET(lavroudem_sheet, accruals, 104);
+LAVROUDEM_OFFSET(lavroudem_sheet, coupons, 120);
 
 LAVROUDEM_SIZE(lavroudem_walk, 16);
 LAVROUDEM_OFFSET(lavroudem_walk, open, 0);

@@ -9,11 +9,12 @@
 
 #include "lavroudem.h"
 
-enum { NAMES = 4, STEPS = 3, TRANCHES = 1, NUMBER = 7 };
+enum { NAMES = 4, STEPS = 3, TRANCHES = 1, PERIODS = 1, NUMBER = 7 };
 enum { ROW = (TRANCHES + 1) * (NAMES + 1) };
 
 static const uint64_t numbers[] = {
     30000000, 400000000,                        /* attachments */
+    1,                                          /* starts */
     100000000, 200000000, 300000000, 400000000, /* hazards */
     980000000, 970000000, 960000000,            /* discounts */
     250000000, 0, 500000000,                    /* accruals */
@@ -21,7 +22,7 @@ static const uint64_t numbers[] = {
 };
 
 static_assert(
-    sizeof numbers / sizeof numbers[0] == LAVROUDEM_NUMBERS(NAMES, STEPS, TRANCHES),
+    sizeof numbers / sizeof numbers[0] == LAVROUDEM_NUMBERS(NAMES, STEPS, TRANCHES, PERIODS),
     "the numbers of the sheet");
 
 /* A walk with all that its calls are lent. */
@@ -47,7 +48,8 @@ static void accept(const char *call, unsigned refusal)
 static void print_spans(const struct lavroudem_sheet *sheet, size_t laid)
 {
     const struct lavroudem_span spans[] = {
-        sheet->attachments, sheet->hazards, sheet->discounts, sheet->accruals, sheet->coupons,
+        sheet->attachments, sheet->starts, sheet->hazards,
+        sheet->discounts, sheet->accruals, sheet->coupons,
     };
     for (size_t list = 0; list < sizeof spans / sizeof spans[0]; list++) {
         printf("%zu at %zu, ", spans[list].length, spans[list].at);
@@ -119,10 +121,10 @@ static int told(void)
 int main(void)
 {
     struct desk desk = {.sheet.pool = {NAMES, STEPS, TRANCHES, 400000000, NUMBER}};
-    /* No two lists of a length, which no pool asks for: all five can be told apart. */
-    print_spans(&desk.sheet, lavroudem_lay_out(&desk.sheet, 5, 2, 11, 3, 7));
-    const size_t laid =
-        lavroudem_lay_out(&desk.sheet, TRANCHES + 1, NAMES, STEPS, STEPS, TRANCHES + 1);
+    /* No two lists of a length, which no pool asks for: all six can be told apart. */
+    print_spans(&desk.sheet, lavroudem_lay_out(&desk.sheet, 5, 4, 2, 11, 3, 7));
+    const size_t laid = lavroudem_lay_out(
+        &desk.sheet, TRANCHES + 1, PERIODS, PERIODS * NAMES, STEPS, STEPS, TRANCHES + 1);
     print_spans(&desk.sheet, laid);
 
     memset(desk.register_bytes, LAVROUDEM_UNISSUED, sizeof desk.register_bytes);

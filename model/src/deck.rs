@@ -88,7 +88,8 @@ impl Program {
     }
 }
 
-/// What a deck starts with; its zeros fail check 1.
+/// What a deck starts with; its zeros fail check 1. No command adds a start,
+/// so the hazards of a deck hold from step 1 to the last.
 fn empty_sheet() -> Sheet {
     Sheet {
         number: 0,
@@ -97,6 +98,7 @@ fn empty_sheet() -> Sheet {
         tranches: 0,
         recovery: 0,
         attachments: Vec::new(),
+        starts: vec![1],
         hazards: Vec::new(),
         discounts: Vec::new(),
         accruals: Vec::new(),

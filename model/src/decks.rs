@@ -1,5 +1,5 @@
 //! Random decks by seed: whole ones, and ones with a limit broken, damaged,
-//! cut short, reordered, oversized or of noise.
+//! cut short, reordered, oversized or of noise. A deck has one period.
 
 use crate::commands::{
     encode, BACK, COMMANDS, COUPON, CUT, DELTA, FORWARD, HAZARD, ISSUE, OPEN, POOL, STEP, VALUE,
@@ -16,7 +16,7 @@ type Commands = Vec<Vec<u8>>;
 
 /// A deck of a random kind, over a small tree.
 pub fn any(random: &mut Random) -> Vec<u8> {
-    let mut sheet = random.small_sheet();
+    let mut sheet = random.small_one_period_sheet();
     match random.below(10) {
         0..=3 => whole(random, &sheet).concat(),
         4 | 5 => {
@@ -44,7 +44,7 @@ pub fn any(random: &mut Random) -> Vec<u8> {
 
 /// A deck with too many figures of a kind, or of too many bytes.
 pub fn oversized(random: &mut Random) -> Vec<u8> {
-    let sheet = random.small_sheet();
+    let sheet = random.small_one_period_sheet();
     let mut commands = whole(random, &sheet);
     let (extra, limit) = match random.below(5) {
         0 => (encode(CUT, &[5]), MAX_TRANCHES + 2),
@@ -67,7 +67,7 @@ pub fn oversized(random: &mut Random) -> Vec<u8> {
 
 /// A deck of the largest tree, to the root in a few calls.
 pub fn longest(random: &mut Random) -> Vec<u8> {
-    let sheet = random.sheet(MAX_NAMES, MAX_STEPS, MAX_TRANCHES);
+    let sheet = random.one_period_sheet(MAX_NAMES, MAX_STEPS, MAX_TRANCHES);
     let mut commands = entries(random, &sheet);
     commands.push(of_number(ISSUE, sheet.number));
     commands.push(open());
@@ -85,8 +85,8 @@ pub fn longest(random: &mut Random) -> Vec<u8> {
     commands.concat()
 }
 
-/// A deck that walks a sheet to the root in one call, and asks for the value
-/// of every tranche and the distribution there.
+/// A deck that walks a sheet of one period to the root in one call, and asks
+/// for the value of every tranche and the distribution there.
 pub fn of_sheet(sheet: &Sheet) -> Vec<u8> {
     let mut commands = entries(&mut Random::new(0), sheet);
     commands.push(of_number(ISSUE, sheet.number));

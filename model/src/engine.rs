@@ -130,6 +130,7 @@ pub fn lend(sheet: &Sheet) -> lavroudem::Sheet {
     };
     let lists = Lists {
         attachments: &sheet.attachments,
+        starts: &sheet.starts,
         hazards: &sheet.hazards,
         discounts: &sheet.discounts,
         accruals: &sheet.accruals,

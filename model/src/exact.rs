@@ -65,7 +65,7 @@ pub fn distribution(sheet: &Sheet, steps: usize) -> Vec<Natural> {
     let mut row = vec![Natural::zero(); sheet.names + 1];
     for list in move_lists(sheet, 0, steps) {
         let end = count_after(0, &list);
-        row[end] = row[end].plus(&chance(sheet, 0, &list));
+        row[end] = row[end].plus(&chance(sheet, 0, 0, &list));
     }
     row
 }
@@ -82,7 +82,7 @@ fn expected_cash(
     let mut sum = Natural::zero();
     for list in move_lists(sheet, count, sheet.steps - position) {
         let received = discounted_cash(sheet, position, count, &list, &cash);
-        sum = sum.plus(&chance(sheet, count, &list).times(&received));
+        sum = sum.plus(&chance(sheet, position, count, &list).times(&received));
     }
     sum
 }
@@ -114,14 +114,16 @@ fn discount_factor(sheet: &Sheet, position: usize, step: usize) -> Natural {
     factor
 }
 
-/// The chance of a list of moves; over B to the number of moves.
-fn chance(sheet: &Sheet, count: usize, list: &[Move]) -> Natural {
+/// The chance of a list of moves from a position and count; over B to the
+/// number of moves.
+fn chance(sheet: &Sheet, position: usize, count: usize, list: &[Move]) -> Natural {
     let mut product = Natural::new(1);
     for (done, &next) in list.iter().enumerate() {
+        let step = position + done + 1;
         let before = count_after(count, &list[..done]);
         let factor = match next {
-            Move::Stay => sheet.survival(before),
-            Move::Default => sheet.hazard(before),
+            Move::Stay => sheet.survival(step, before),
+            Move::Default => sheet.hazard(step, before),
         };
         product = product.times(&Natural::new(factor));
     }

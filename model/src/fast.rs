@@ -107,10 +107,17 @@ pub fn forward(
     refuse_if(steps > sheet.steps, Refusal::OutOfSteps)?;
     row.fill(0);
     row[0] = B;
-    for _ in 0..steps {
-        push(row, &sheet.hazards);
+    for step in 1..=steps {
+        push(row, hazards_into(sheet, step));
     }
     Ok(())
+}
+
+/// The hazards of the moves into a step, for a sheet that passed its checks.
+fn hazards_into(sheet: &Sheet, step: usize) -> &[u64] {
+    let has_started = |&start: &u64| start <= step as u64;
+    let last = sheet.starts.iter().rposition(has_started).unwrap_or(0);
+    &sheet.hazards[last * sheet.names..][..sheet.names]
 }
 
 /// One step forward, in place. What moves on from a count is kept until the
@@ -144,12 +151,13 @@ fn roll_back(
     }
     let counts = sheet.names + 1;
     for i in (position - steps..position).rev() {
+        let hazards = hazards_into(sheet, i + 1);
         let discount = sheet.discounts[i];
         for (row, paid) in default_row
             .chunks_exact_mut(counts)
             .zip(paid.chunks_exact(counts))
         {
-            roll_defaults(row, &sheet.hazards, discount, paid);
+            roll_defaults(row, hazards, discount, paid);
         }
         let accrual = sheet.accruals[i];
         if accrual != 0 {
@@ -158,7 +166,7 @@ fn roll_back(
             }
         }
         for row in premium_row.chunks_exact_mut(counts) {
-            roll_premiums(row, &sheet.hazards, discount);
+            roll_premiums(row, hazards, discount);
         }
     }
 }
@@ -297,7 +305,7 @@ fn check_pool(sheet: &Sheet) -> Result<(), Refusal> {
     refuse_if(fault, Refusal::Pool)
 }
 
-/// Checks 2 to 10. The accruals are summed after each was found small.
+/// Checks 2 to 10, with 25. The accruals are summed after each was found small.
 fn check_after_pool(sheet: &Sheet, register: &[u8], row_fault: bool) -> Result<(), Refusal> {
     let length_fault = sheet::length_fault(sheet) || register::length_fault(register) || row_fault;
     refuse_if(length_fault, Refusal::Length)?;
@@ -307,6 +315,7 @@ fn check_after_pool(sheet: &Sheet, register: &[u8], row_fault: bool) -> Result<(
         !rising || above(&sheet.attachments, B),
         Refusal::Attachments,
     )?;
+    refuse_if(sheet::period_fault(sheet), Refusal::Periods)?;
     refuse_if(above(&sheet.hazards, B), Refusal::Hazard)?;
     let discount_fault = any(&sheet.discounts, |discount| discount == 0 || discount > B);
     refuse_if(discount_fault, Refusal::Discount)?;

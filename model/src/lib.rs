@@ -15,7 +15,8 @@
 //! - [`natural`]: whole numbers of any size
 //! - [`exact`]: unrounded values by brute force over lists of moves
 //! - [`trials`]: the trial entries that the engine's program runs
-//! - [`worked`]: the small sheet whose figures document 01 prints
+//! - [`worked`]: small sheets: the one whose figures document 01 prints, and
+//!   one of two periods
 //! - [`random`]: random sheets by seed
 //! - [`decks`]: random decks by seed
 //! - [`fast`]: the calls once more, written for speed, for the benchmark

@@ -1,7 +1,7 @@
 //! Random sheets by seed, for the trials: a fixed seed gives the same trials
 //! on every run.
 
-use crate::sheet::Sheet;
+use crate::sheet::{Sheet, MAX_PERIODS};
 use std::collections::BTreeSet;
 
 /// B of document 01, in the type of the sheet's fields.
@@ -71,6 +71,22 @@ impl Random {
         points.into_iter().collect()
     }
 
+    /// The starts of one period, of two or three, or of as many as there may
+    /// be. Half of the later ones lie at an end of the tree or beside it.
+    fn starts(&mut self, steps: usize) -> Vec<u64> {
+        let most = steps.min(MAX_PERIODS) as u64;
+        let periods = match self.between(0, 3) {
+            0 => 1,
+            1 => most,
+            _ => self.between(2, 3).min(most),
+        };
+        let mut starts = BTreeSet::from([1]);
+        while starts.len() < periods as usize {
+            starts.insert(self.with_edges(2, steps as u64));
+        }
+        starts.into_iter().collect()
+    }
+
     /// Ten years at most, the last one a premium date.
     fn accruals(&mut self, steps: usize) -> Vec<u64> {
         let highest = B.min(10 * B / steps as u64);
@@ -81,14 +97,36 @@ impl Random {
 
     /// A sheet small enough for brute force over every list of moves.
     pub fn small_sheet(&mut self) -> Sheet {
-        let names = self.between(1, 4) as usize;
-        let steps = self.between(1, 6) as usize;
-        let tranches = self.between(1, 3) as usize;
+        let (names, steps, tranches) = self.small_shape();
         self.sheet(names, steps, tranches)
     }
 
-    /// An accepted sheet of the given shape.
+    /// The same with one period, as a deck brings it.
+    pub fn small_one_period_sheet(&mut self) -> Sheet {
+        let (names, steps, tranches) = self.small_shape();
+        self.one_period_sheet(names, steps, tranches)
+    }
+
+    /// Names, steps and tranches.
+    fn small_shape(&mut self) -> (usize, usize, usize) {
+        let names = self.between(1, 4) as usize;
+        let steps = self.between(1, 6) as usize;
+        let tranches = self.between(1, 3) as usize;
+        (names, steps, tranches)
+    }
+
+    /// An accepted sheet of the given shape, of any number of periods.
     pub fn sheet(&mut self, names: usize, steps: usize, tranches: usize) -> Sheet {
+        let starts = self.starts(steps);
+        self.sheet_of(names, steps, tranches, starts)
+    }
+
+    /// The same with one period.
+    pub fn one_period_sheet(&mut self, names: usize, steps: usize, tranches: usize) -> Sheet {
+        self.sheet_of(names, steps, tranches, vec![1])
+    }
+
+    fn sheet_of(&mut self, names: usize, steps: usize, tranches: usize, starts: Vec<u64>) -> Sheet {
         Sheet {
             number: self.between(0, 255) as u8,
             names,
@@ -96,7 +134,8 @@ impl Random {
             tranches,
             recovery: self.recovery(),
             attachments: self.attachments(tranches),
-            hazards: self.list(names, 0, B),
+            hazards: self.list(names * starts.len(), 0, B),
+            starts,
             discounts: self.list(steps, 1, B),
             accruals: self.accruals(steps),
             coupons: self.list(tranches + 1, 0, 10_000_000),

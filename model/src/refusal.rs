@@ -26,11 +26,13 @@ pub enum Refusal {
     Unknown = 18,
     CutShort = 19,
     TooMany = 20,
+    /// Checked before 5.
+    Periods = 25,
 }
 
 impl Refusal {
-    /// In the order of their numbers, from 1.
-    pub const ALL: [Refusal; 20] = [
+    /// In the order of their numbers: 1 to 20, then 25.
+    pub const ALL: [Refusal; 21] = [
         Refusal::Pool,
         Refusal::Length,
         Refusal::Recovery,
@@ -51,10 +53,19 @@ impl Refusal {
         Refusal::Unknown,
         Refusal::CutShort,
         Refusal::TooMany,
+        Refusal::Periods,
     ];
 
     pub fn number(self) -> u8 {
         self as u8
+    }
+
+    /// Those of a deck's commands; all others are met by calls.
+    pub fn stops_a_deck(self) -> bool {
+        matches!(
+            self,
+            Refusal::Unknown | Refusal::CutShort | Refusal::TooMany
+        )
     }
 
     pub fn word(self) -> &'static str {
@@ -79,6 +90,7 @@ impl Refusal {
             Refusal::Unknown => "unknown",
             Refusal::CutShort => "cut short",
             Refusal::TooMany => "too many",
+            Refusal::Periods => "periods",
         }
     }
 }

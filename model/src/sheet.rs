@@ -8,6 +8,7 @@ pub const B: u128 = 1_000_000_000;
 pub const MAX_NAMES: usize = 125;
 pub const MAX_STEPS: usize = 3_650;
 pub const MAX_TRANCHES: usize = 8;
+pub const MAX_PERIODS: usize = 16;
 
 /// Ten years, in billionths of a year.
 pub const MAX_ACCRUAL_SUM: u128 = 10 * B;
@@ -31,7 +32,10 @@ pub struct Sheet {
     /// The r + 1 attachment points, "cuts" in document 01. Tranche j lies
     /// between points j and j + 1.
     pub attachments: Vec<u64>,
-    /// p(0) to p(n - 1).
+    /// The first step of each period of hazards; the last one ends with the
+    /// tree.
+    pub starts: Vec<u64>,
+    /// n for each period, one period after the other.
     pub hazards: Vec<u64>,
     /// v(1) to v(m), so v(i) is at place i - 1.
     pub discounts: Vec<u64>,
@@ -47,18 +51,27 @@ impl Sheet {
         self.tranches
     }
 
-    /// p(k). Nobody is left to default at count n, so p(n) is 0.
-    pub fn hazard(&self, count: usize) -> u128 {
+    /// The period, counted from 0, that holds a step from 1 to m: the last
+    /// one that has started by then.
+    fn period(&self, step: usize) -> usize {
+        let has_started = |&start: &u64| start <= step as u64;
+        let holds = self.starts.iter().rposition(has_started);
+        holds.expect("a step before the first period")
+    }
+
+    /// p of the move into a step, 1 to m, from a count. Nobody is left to
+    /// default at count n, so it is 0 there.
+    pub fn hazard(&self, step: usize, count: usize) -> u128 {
         if count == self.names {
             0
         } else {
-            u128::from(self.hazards[count])
+            u128::from(self.hazards[self.period(step) * self.names + count])
         }
     }
 
-    /// B - p(k): the chance that a step leaves the count alone.
-    pub fn survival(&self, count: usize) -> u128 {
-        B - self.hazard(count)
+    /// B - p: the chance that the move into a step leaves the count alone.
+    pub fn survival(&self, step: usize, count: usize) -> u128 {
+        B - self.hazard(step, count)
     }
 
     /// v(i), for i from 1 to m.
@@ -81,7 +94,8 @@ impl Sheet {
     }
 }
 
-/// Checks 1 to 8, in the order of document 01; the first fault is named.
+/// Checks 1 to 8 with 25 before 5, in the order of document 01; the first
+/// fault is named.
 pub fn check(sheet: &Sheet) -> Result<(), Refusal> {
     check_pool(sheet)?;
     refuse_if(length_fault(sheet), Refusal::Length)?;
@@ -93,11 +107,12 @@ pub fn check_pool(sheet: &Sheet) -> Result<(), Refusal> {
     refuse_if(pool_fault(sheet), Refusal::Pool)
 }
 
-/// Checks 3 to 8. They stand apart from the others because a call has more
-/// lengths to check than those of the sheet's own lists.
+/// Checks 3, 4, 25 and 5 to 8. They stand apart from the others because a
+/// call has more lengths to check than those of the sheet's own lists.
 pub fn check_figures(sheet: &Sheet) -> Result<(), Refusal> {
     refuse_if(above(sheet.recovery, B), Refusal::Recovery)?;
     refuse_if(attachment_fault(sheet), Refusal::Attachments)?;
+    refuse_if(period_fault(sheet), Refusal::Periods)?;
     refuse_if(hazard_fault(sheet), Refusal::Hazard)?;
     refuse_if(discount_fault(sheet), Refusal::Discount)?;
     refuse_if(accrual_fault(sheet), Refusal::Accrual)?;
@@ -120,7 +135,8 @@ fn pool_fault(sheet: &Sheet) -> bool {
 /// The part of check 2 that concerns the sheet's own lists.
 pub fn length_fault(sheet: &Sheet) -> bool {
     sheet.attachments.len() != sheet.tranches + 1
-        || sheet.hazards.len() != sheet.names
+        || !(1..=MAX_PERIODS).contains(&sheet.starts.len())
+        || sheet.hazards.len() != sheet.names * sheet.starts.len()
         || sheet.discounts.len() != sheet.steps
         || sheet.accruals.len() != sheet.steps
         || sheet.coupons.len() != sheet.tranches + 1
@@ -130,6 +146,14 @@ fn attachment_fault(sheet: &Sheet) -> bool {
     let rising = sheet.attachments.windows(2).all(|pair| pair[0] < pair[1]);
     let too_high = sheet.attachments.iter().any(|&point| above(point, B));
     !rising || too_high
+}
+
+/// Check 25. Every step lies in a period, and no period is empty.
+pub fn period_fault(sheet: &Sheet) -> bool {
+    let from_1 = sheet.starts.first() == Some(&1);
+    let rising = sheet.starts.windows(2).all(|pair| pair[0] < pair[1]);
+    let beyond = |&start: &u64| above(start, sheet.steps as u128);
+    !from_1 || !rising || sheet.starts.iter().any(beyond)
 }
 
 fn hazard_fault(sheet: &Sheet) -> bool {

@@ -97,7 +97,8 @@ fn default_leg_before(
     } else {
         0 // has no weight: p(n) is 0
     };
-    discounted(sheet, step, expected(sheet, count, if_stay, if_default))
+    let amount = expected(sheet, step, count, if_stay, if_default);
+    discounted(sheet, step, amount)
 }
 
 fn premium_leg_before(
@@ -118,12 +119,13 @@ fn premium_leg_before(
     } else {
         0 // has no weight: p(n) is 0
     };
-    discounted(sheet, step, expected(sheet, count, if_stay, if_default))
+    let amount = expected(sheet, step, count, if_stay, if_default);
+    discounted(sheet, step, amount)
 }
 
 /// Y: the first of two roundings, for the chance.
-fn expected(sheet: &Sheet, count: usize, if_stay: u128, if_default: u128) -> u128 {
-    half(sheet.hazard(count) * if_default + sheet.survival(count) * if_stay)
+fn expected(sheet: &Sheet, step: usize, count: usize, if_stay: u128, if_default: u128) -> u128 {
+    half(sheet.hazard(step, count) * if_default + sheet.survival(step, count) * if_stay)
 }
 
 /// The second rounding, for the discount. It is kept apart from the first;
@@ -213,17 +215,18 @@ pub fn distribution(sheet: &Sheet, steps: usize) -> Vec<u128> {
     assert!(steps <= sheet.steps, "steps beyond the tree");
     let mut row = vec![0; sheet.names + 1];
     row[0] = B;
-    for _ in 0..steps {
-        row = one_step_forward(sheet, &row);
+    for step in 1..=steps {
+        row = one_step_forward(sheet, step, &row);
     }
     row
 }
 
-/// Every move is taken from the old row, so one step defaults one name.
-fn one_step_forward(sheet: &Sheet, old: &[u128]) -> Vec<u128> {
+/// The row after `step`. Every move is taken from the old row, so one step
+/// defaults one name.
+fn one_step_forward(sheet: &Sheet, step: usize, old: &[u128]) -> Vec<u128> {
     let mut new = old.to_vec();
     for count in 0..sheet.names {
-        let moved = half(old[count] * sheet.hazard(count));
+        let moved = half(old[count] * sheet.hazard(step, count));
         new[count] -= moved;
         new[count + 1] += moved;
     }

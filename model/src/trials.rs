@@ -56,6 +56,9 @@ numbers! {
         recovery,
         /// Lengths; 0 stands for what the pool asks for.
         attachments_lent,
+        /// This one is told as it is.
+        starts_lent,
+        /// 0 stands for the names of each start that is lent.
         hazards_lent,
         discounts_lent,
         accruals_lent,
@@ -69,10 +72,19 @@ numbers! {
         lowest,
         middle,
         highest,
-        /// The first and third hazard, and all others.
+        /// The first three starts of a period; the next ones stand one apart.
+        start,
+        second_start,
+        other_starts,
+        /// The first and third hazard, and all others of the first period.
         hazard,
         third_hazard,
         other_hazards,
+        /// The first hazard of the second period, and the one behind it; the
+        /// next ones stand a thousandth apart, so that no two periods are
+        /// alike.
+        next_hazard,
+        later_hazards,
         /// The first discount, and all others.
         discount,
         other_discounts,
@@ -122,6 +134,7 @@ pub const WALKED: Trial = Trial {
     tranches: 2,
     recovery: 400_000_001,
     attachments_lent: 0,
+    starts_lent: 1,
     hazards_lent: 0,
     discounts_lent: 0,
     accruals_lent: 0,
@@ -133,9 +146,14 @@ pub const WALKED: Trial = Trial {
     lowest: 0,
     middle: 300_000_000,
     highest: 700_000_000,
+    start: 1,
+    second_start: 2,
+    other_starts: 3,
     hazard: 100_000_000,
     third_hazard: 700_000_000,
     other_hazards: 200_000_000,
+    next_hazard: 150_000_000,
+    later_hazards: 50_000_000,
     discount: 950_000_000,
     other_discounts: 990_000_000,
     accrual: 250_000_000,
@@ -228,6 +246,7 @@ pub fn edges() -> Vec<Edge> {
     [
         pool(),
         lengths(),
+        periods(),
         figures(),
         premiums(),
         bytes(),
@@ -286,6 +305,42 @@ fn lengths() -> Vec<Edge> {
         edge("defaults_lent", 11..=13, WALKED),
         edge("premiums_lent", 11..=13, WALKED),
         edge("row_lent", 3..=5, WALKED),
+    ]
+}
+
+/// 2, 25 and 5, of the periods.
+fn periods() -> Vec<Edge> {
+    let starts = |starts_lent| Trial {
+        starts_lent,
+        ..WALKED
+    };
+    let hazards = |hazards_lent| Trial {
+        hazards_lent,
+        ..WALKED
+    };
+    // A chance of one leaves nobody at count 0, but only after one step.
+    let last = Trial {
+        second_start: 3,
+        ..starts(2)
+    };
+    // So many steps that 17 starts would be on the tree.
+    let many = Trial {
+        steps: 17,
+        back: 17,
+        forward: 17,
+        other_accruals: 100_000_000,
+        tranche: 2,
+        ..WALKED
+    };
+    vec![
+        edge("starts_lent", 0..=2, hazards(3)),
+        edge("starts_lent", 1..=3, hazards(6)),
+        edge("starts_lent", 16..=17, many),
+        edge("hazards_lent", 5..=7, starts(2)),
+        edge("start", 0..=2, WALKED),
+        edge("second_start", 1..=4, starts(2)),
+        edge("other_starts", 2..=4, starts(3)),
+        edge("next_hazard", B..=B + 1, last),
     ]
 }
 
@@ -558,11 +613,8 @@ fn sheet(trial: &Trial) -> Sheet {
         tranches,
         recovery: trial.recovery,
         attachments,
-        hazards: list(
-            trial.other_hazards,
-            [Some(trial.hazard), None, Some(trial.third_hazard)],
-            length(trial.hazards_lent, names),
-        ),
+        starts: starts(trial),
+        hazards: hazards(trial),
         discounts: list(
             trial.other_discounts,
             [Some(trial.discount), None, None],
@@ -579,6 +631,24 @@ fn sheet(trial: &Trial) -> Sheet {
             length(trial.coupons_lent, tranches + 1),
         ),
     }
+}
+
+fn starts(trial: &Trial) -> Vec<u64> {
+    let mut starts = vec![trial.start, trial.second_start];
+    starts.extend((0..15).map(|place| trial.other_starts + place));
+    starts.truncate(trial.starts_lent as usize);
+    starts
+}
+
+/// Those of the first period, and behind them those of the others.
+fn hazards(trial: &Trial) -> Vec<u64> {
+    let (names, periods) = (trial.names as usize, trial.starts_lent as usize);
+    let first = [Some(trial.hazard), None, Some(trial.third_hazard)];
+    let mut hazards = list(trial.other_hazards, first, names);
+    hazards.push(trial.next_hazard);
+    hazards.extend((0..ROOM as u64).map(|place| trial.later_hazards + 1_000_000 * place));
+    hazards.truncate(length(trial.hazards_lent, names * periods));
+    hazards
 }
 
 /// One figure throughout, but for some of the first three places.

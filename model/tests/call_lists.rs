@@ -13,7 +13,7 @@ use lavroudem_model::sheet::{check, Sheet};
 use lavroudem_model::tree::{first_over_ceiling, place, Rows};
 use lavroudem_model::walk::{self, row_length, Walk};
 
-const LISTS: usize = 400;
+const LISTS: usize = 600;
 const CALLS: usize = 60;
 
 /// Two lent rows.

@@ -1,12 +1,15 @@
-//! What `callers/c/unequal.c` prints is what the model says of its sheet.
+//! What `callers/c/unequal.c` and `callers/c/periods.c` print is what the
+//! model says of their sheets.
 
 use lavroudem_model::sheet::{check, Sheet};
 use lavroudem_model::tree::{
     default_leg, distribution, hedge_ratio, net_value, premium_leg, roll_back, Rows,
 };
+use lavroudem_model::worked::two_periods;
 use std::fmt::Write;
 
-const PRINTED: &str = include_str!("../../callers/unequal.stdout");
+const UNEQUAL: &str = include_str!("../../callers/unequal.stdout");
+const PERIODS: &str = include_str!("../../callers/periods.stdout");
 
 /// No two of names, steps and tranches + 1 are the same.
 fn unequal_sheet() -> Sheet {
@@ -17,6 +20,7 @@ fn unequal_sheet() -> Sheet {
         tranches: 1,
         recovery: 400_000_000,
         attachments: vec![30_000_000, 400_000_000],
+        starts: vec![1],
         hazards: vec![100_000_000, 200_000_000, 300_000_000, 400_000_000],
         discounts: vec![980_000_000, 970_000_000, 960_000_000],
         accruals: vec![250_000_000, 0, 500_000_000],
@@ -24,8 +28,20 @@ fn unequal_sheet() -> Sheet {
     }
 }
 
+/// In the order of the spans.
+fn lengths(sheet: &Sheet) -> [usize; 6] {
+    [
+        sheet.attachments.len(),
+        sheet.starts.len(),
+        sheet.hazards.len(),
+        sheet.discounts.len(),
+        sheet.accruals.len(),
+        sheet.coupons.len(),
+    ]
+}
+
 /// Length and place of lists that stand one after the other.
-fn spans(lengths: [usize; 5]) -> String {
+fn spans(lengths: [usize; 6]) -> String {
     let mut at = 0;
     let mut line = String::new();
     for length in lengths {
@@ -59,12 +75,18 @@ fn nodes(sheet: &Sheet, rows: &Rows, position: usize) -> String {
     lines
 }
 
+/// The chances of default counts, each after a space.
+fn chances(sheet: &Sheet, steps: usize) -> String {
+    let row = distribution(sheet, steps);
+    row.iter().map(|chance| format!(" {chance}")).collect()
+}
+
 #[test]
 fn the_example_of_unequal_lists_prints_the_figures_of_the_model() {
     let sheet = unequal_sheet();
     assert_eq!(check(&sheet), Ok(()));
-    let mut text = spans([5, 2, 11, 3, 7]);
-    text += &spans([2, 4, 3, 3, 2]);
+    let mut text = spans([5, 4, 2, 11, 3, 7]);
+    text += &spans(lengths(&sheet));
     let mut rows = Rows::zero(&sheet);
     let mut position = sheet.steps;
     while position > 0 {
@@ -72,9 +94,32 @@ fn the_example_of_unequal_lists_prints_the_figures_of_the_model() {
         text += &nodes(&sheet, &rows, position);
     }
     for steps in 0..=sheet.steps {
-        let chances = distribution(&sheet, steps);
-        let fields: Vec<String> = chances.iter().map(|chance| format!(" {chance}")).collect();
-        writeln!(text, "forward {steps}:{}", fields.concat()).unwrap();
+        let row = chances(&sheet, steps);
+        writeln!(text, "forward {steps}:{row}").unwrap();
     }
-    assert_eq!(PRINTED, text);
+    assert_eq!(UNEQUAL, text);
+}
+
+/// The example's last call is on starts that do not rise.
+#[test]
+fn the_example_of_two_periods_prints_the_figures_of_the_model() {
+    let mut sheet = two_periods();
+    assert_eq!(check(&sheet), Ok(()));
+    let mut text = spans(lengths(&sheet));
+    let mut rows = Rows::zero(&sheet);
+    let mut position = sheet.steps;
+    while position > 0 {
+        position = roll_back(&sheet, &mut rows, position, 1);
+        let default = default_leg(&sheet, &rows, sheet.index(), 0);
+        writeln!(text, "index at step {position}: default leg {default}").unwrap();
+    }
+    for steps in [2, 3] {
+        let row = chances(&sheet, steps);
+        writeln!(text, "chances after {steps} steps:{row}").unwrap();
+    }
+    sheet.starts[1] = 1;
+    let refusal = check(&sheet).unwrap_err();
+    let (number, word) = (refusal.number(), refusal.word());
+    writeln!(text, "starts 1 and 1: refusal {number}, {word}").unwrap();
+    assert_eq!(PERIODS, text);
 }

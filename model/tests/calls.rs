@@ -5,7 +5,9 @@ mod common;
 
 use common::desk::Call::{self, Back, Forward, Open, Ratio, Value};
 use common::desk::Desk;
-use common::{plain_sheet, Random, B};
+use common::{
+    assert_every_break_is_met, break_periods, plain_sheet, set_starts, Break, Met, Random, B,
+};
 use lavroudem_model::deck::CALLS;
 use lavroudem_model::refusal::Refusal;
 use lavroudem_model::sheet::Sheet;
@@ -179,7 +181,9 @@ fn back_in_any_split_reaches_the_root() {
 
 #[test]
 fn largest_sheet_is_walked_to_its_root() {
-    let mut desk = walked(plain_sheet(125, 3_650, 8));
+    let mut sheet = plain_sheet(125, 3_650, 8);
+    set_starts(&mut sheet, &[1, 1_826, 3_650]);
+    let mut desk = walked(sheet);
     for part in [0, 1, 2_000, 1_648] {
         desk.back_by = part;
         assert!(desk.ask(&CALLS, Back).is_ok());
@@ -219,10 +223,11 @@ fn spoil_list(random: &mut Random, list: &mut Vec<u64>) {
     }
 }
 
-/// Puts something else in the place of one thing of the desk.
-fn spoil(random: &mut Random, desk: &mut Desk) {
+/// Puts something else in the place of one thing of the desk. Hands back how
+/// it broke the periods, if it did that.
+fn spoil(random: &mut Random, desk: &mut Desk) -> Option<Break> {
     let figure = any_figure(random);
-    match random.between(0, 19) {
+    match random.between(0, 21) {
         0 => desk.sheet.names = figure as usize,
         1 => desk.sheet.steps = figure as usize,
         2 => desk.sheet.tranches = figure as usize,
@@ -242,10 +247,24 @@ fn spoil(random: &mut Random, desk: &mut Desk) {
         16 => desk.walk.position = figure as usize,
         17 => desk.back_by = figure as usize,
         18 => desk.tranche = figure as usize,
+        19 => spoil_list(random, &mut desk.sheet.starts),
+        20 => return Some(break_periods(random, &mut desk.sheet)),
         _ => {
             desk.count = figure as usize;
             desk.forward_by = figure as usize;
         }
+    }
+    None
+}
+
+/// A break that is all that is wrong is named by every call.
+fn assert_named(spoiled: &[Option<Break>], desk: &Desk, met: &mut Met) {
+    if let &[Some((name, refusal, _))] = spoiled {
+        for call in ALL {
+            let answer = desk.clone().ask(&CALLS, call);
+            assert_eq!(answer, Err(refusal), "{name}: {call:?} on {desk:?}");
+        }
+        *met.entry(name).or_default() += 1;
     }
 }
 
@@ -253,12 +272,13 @@ fn spoil(random: &mut Random, desk: &mut Desk) {
 fn calls_on_anything_answer_or_refuse_without_a_trace() {
     let mut random = Random::new(2_012);
     let mut accepted = 0;
-    let mut refused = [0; 18];
+    let mut refused = [0; 26];
+    let mut met = Met::new();
     for _ in 0..40_000 {
         let mut desk = walked(random.small_sheet());
-        for _ in 0..random.between(0, 3) {
-            spoil(&mut random, &mut desk);
-        }
+        let spoils = 0..random.between(0, 3);
+        let spoiled: Vec<_> = spoils.map(|_| spoil(&mut random, &mut desk)).collect();
+        assert_named(&spoiled, &desk, &mut met);
         for call in ALL {
             let mut asked = desk.clone();
             match asked.ask(&CALLS, call) {
@@ -275,4 +295,6 @@ fn calls_on_anything_answer_or_refuse_without_a_trace() {
         assert!(times > 50, "refusal {number}: {times}");
     }
     assert!(refused[15] > 0);
+    assert!(refused[25] > 50, "refusal 25: {}", refused[25]);
+    assert_every_break_is_met(&met);
 }

@@ -10,6 +10,7 @@ use lavroudem_model::commands::{
     WITHDRAW,
 };
 use lavroudem_model::deck::{listing, CALLS};
+use lavroudem_model::decks;
 use lavroudem_model::refusal::Refusal;
 use lavroudem_model::sheet::Sheet;
 use lavroudem_model::tree::{default_leg, distribution, net_value, premium_leg, roll_back, Rows};
@@ -662,6 +663,41 @@ fn faults_of_the_sheet_print_their_refusals() {
     }
 }
 
+/// The hazards of a second period are too many; those of the first hold to the
+/// last step.
+#[test]
+fn a_deck_has_one_period() {
+    let two = worked::two_periods();
+    assert_all_print(&sheet_deck(&two), Refusal::Length);
+    let one = Sheet {
+        starts: vec![1],
+        hazards: vec![100_000_000, 200_000_000],
+        ..two
+    };
+    let lines = [
+        (issue(6), "issue 0"),
+        (open(), "open 0"),
+        (back(1), "back 0 2"),
+        (value(1, 0), "value 0 50000000 950000000 25000000000000"),
+        (forward(3, 0), "forward 0 729000000"),
+    ];
+    assert_lines(&sheet_deck(&one), &lines);
+}
+
+#[test]
+fn no_deck_meets_the_refusal_of_periods() {
+    let mut random = Random::new(25);
+    let mut refused = [0; 26];
+    for _ in 0..2_000 {
+        for line in printed(&decks::any(&mut random)).lines() {
+            let number: usize = line.split(' ').nth(1).unwrap().parse().unwrap();
+            refused[number] += 1;
+        }
+    }
+    assert!(refused[4] > 100 && refused[5] > 100);
+    assert_eq!(refused[21..], [0; 5]);
+}
+
 /// One name that defaults in each step with an even chance. The index leg
 /// lacks 600000000 / 2^steps of a sure loss, rounded down: 1 unit after 29
 /// steps, 0 after 30. The tranche still earns its first coupons.
@@ -753,7 +789,7 @@ fn listing_says_what_the_calls_answer() {
     let mut accepted = 0;
     let mut negative = 0;
     for _ in 0..500 {
-        let sheet = random.small_sheet();
+        let sheet = random.small_one_period_sheet();
         let mut deck = sheet_deck(&sheet);
         let mut desk = Desk::fresh(sheet, 0);
         let mut expected = String::new();

@@ -46,6 +46,8 @@ fn random_decks() {
             let entry = (word.to_string(), number.to_string());
             assert!(tally.contains_key(&entry), "no {word} {number}");
         }
+        let periods = (word.to_string(), "25".to_string());
+        assert!(!tally.contains_key(&periods), "{word} 25");
     }
     for (word, number) in [
         ("issue", 17),

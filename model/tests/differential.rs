@@ -7,7 +7,8 @@ mod common;
 
 use common::desk::Call::{self, Back, Forward, Issue, Open, Ratio, Value, Withdraw};
 use common::desk::Desk;
-use common::{Random, B};
+use common::edges::ALL;
+use common::{assert_every_break_is_met, break_periods, Break, Met, Random, B};
 use lavroudem::OpenWalk;
 use lavroudem_model::cash::default_payment;
 use lavroudem_model::deck::CALLS;
@@ -17,21 +18,21 @@ use lavroudem_model::register::{LIVE, UNISSUED};
 use lavroudem_model::sheet::Sheet;
 use lavroudem_model::tree::{default_ceiling, place, premium_ceiling};
 use lavroudem_model::trials;
-use std::collections::BTreeMap;
+use std::collections::{BTreeMap, BTreeSet};
 
 /// The calls with the numbers that each can answer (document 01, "Refusals
 /// in order").
 const ANSWERS: [(Call, &[u8]); 7] = [
     (Issue, &[0, 2, 9, 17]),
     (Withdraw, &[0, 2, 9, 10]),
-    (Open, &[0, 1, 2, 3, 4, 5, 6, 7, 8, 9, 10]),
-    (Back, &[0, 1, 2, 3, 4, 5, 6, 7, 8, 9, 10, 11, 12, 13]),
-    (Value, &[0, 1, 2, 3, 4, 5, 6, 7, 8, 9, 10, 11, 12, 14]),
+    (Open, &[0, 1, 2, 3, 4, 25, 5, 6, 7, 8, 9, 10]),
+    (Back, &[0, 1, 2, 3, 4, 25, 5, 6, 7, 8, 9, 10, 11, 12, 13]),
+    (Value, &[0, 1, 2, 3, 4, 25, 5, 6, 7, 8, 9, 10, 11, 12, 14]),
     (
         Ratio,
-        &[0, 1, 2, 3, 4, 5, 6, 7, 8, 9, 10, 11, 12, 14, 15, 16],
+        &[0, 1, 2, 3, 4, 25, 5, 6, 7, 8, 9, 10, 11, 12, 14, 15, 16],
     ),
-    (Forward, &[0, 1, 2, 3, 4, 5, 6, 7, 8, 9, 10, 13]),
+    (Forward, &[0, 1, 2, 3, 4, 25, 5, 6, 7, 8, 9, 10, 13]),
 ];
 
 /// Document 01's number, and the figures; after a refusal there are none.
@@ -41,8 +42,13 @@ fn said(answer: Result<Vec<i128>, Refusal>) -> Answer {
     answer.map_or_else(|refusal| (refusal.number(), vec![]), |figures| (0, figures))
 }
 
-/// How often each call gave each number.
-type Tally = BTreeMap<(Call, u8), usize>;
+#[derive(Default)]
+struct Tally {
+    /// How often each call gave each number.
+    answers: BTreeMap<(Call, u8), usize>,
+    /// How often each break of the periods was named by every call.
+    breaks: Met,
+}
 
 /// Makes a call on both sides and keeps what it leaves.
 fn ask(desk: &mut Desk, call: Call, tally: &mut Tally) -> Answer {
@@ -52,7 +58,7 @@ fn ask(desk: &mut Desk, call: Call, tally: &mut Tally) -> Answer {
     let engine_answer = said(other.ask(&engine::CALLS, call));
     assert_eq!(engine_answer, answer, "{call:?} on {before:?}");
     assert_eq!(&other, desk, "{call:?} on {before:?}");
-    *tally.entry((call, answer.0)).or_default() += 1;
+    *tally.answers.entry((call, answer.0)).or_default() += 1;
     answer
 }
 
@@ -139,9 +145,10 @@ fn set_one(random: &mut Random, list: &mut [u64], figure: u64) {
     }
 }
 
-fn damage_sheet(random: &mut Random, sheet: &mut Sheet) {
+/// Hands back how it broke the periods, if it did that.
+fn damage_sheet(random: &mut Random, sheet: &mut Sheet) -> Option<Break> {
     let high = above(random, B);
-    match random.below(17) {
+    match random.below(21) {
         0 => sheet.names = outside(random, 125),
         1 => sheet.steps = outside(random, 3_650),
         2 => sheet.tranches = outside(random, 8),
@@ -158,11 +165,15 @@ fn damage_sheet(random: &mut Random, sheet: &mut Sheet) {
         13 => set_one(random, &mut sheet.discounts, 0),
         14 => set_one(random, &mut sheet.accruals, high),
         15 => damage_accruals(random, &mut sheet.accruals),
+        16 => resize(random, &mut sheet.starts, 1),
+        17 => set_one(random, &mut sheet.starts, high),
+        18 | 19 => return Some(break_periods(random, sheet)),
         _ => {
             let coupon = above(random, 10_000_000);
             set_one(random, &mut sheet.coupons, coupon);
         }
     }
+    None
 }
 
 /// The last one 0, or a sum that is too high or beyond 64 bits.
@@ -204,6 +215,31 @@ fn damage_state(random: &mut Random, desk: &mut Desk) {
             set_one(random, &mut desk.premium_row, entry);
         }
     }
+}
+
+/// One damage or several to a whole desk. Hands back a break of the periods if
+/// no other refusal comes before its own: it alone befell the sheet, and what
+/// is lent beside it has its lengths still.
+fn damage(random: &mut Random, desk: &mut Desk) -> Option<Break> {
+    let lengths = lent_lengths(desk);
+    let mut to_sheet = Vec::new();
+    for _ in 0..[1, 1, 1, 2, 4][random.below(5)] {
+        if random.one_in(2) {
+            to_sheet.push(damage_sheet(random, &mut desk.sheet));
+        } else {
+            damage_state(random, desk);
+        }
+    }
+    match to_sheet[..] {
+        [only] if lent_lengths(desk) == lengths => only,
+        _ => None,
+    }
+}
+
+fn lent_lengths(desk: &Desk) -> [usize; 4] {
+    let rows = [&desk.default_row, &desk.premium_row, &desk.forward_row];
+    let [defaults, premiums, chances] = rows.map(Vec::len);
+    [desk.register.len(), defaults, premiums, chances]
 }
 
 // ---- rows lent by someone else, for a sheet that is accepted
@@ -268,54 +304,63 @@ fn trial(random: &mut Random, sheet: Sheet, tally: &mut Tally) {
     for _ in 0..12 {
         let mut damaged = whole.clone();
         operands(random, &mut damaged);
-        for _ in 0..[1, 1, 1, 2, 4][random.below(5)] {
-            if random.one_in(2) {
-                damage_sheet(random, &mut damaged.sheet);
-            } else {
-                damage_state(random, &mut damaged);
-            }
+        if let Some(way) = damage(random, &mut damaged) {
+            assert_named(&damaged, way, tally);
         }
         let call = call(random);
         ask(&mut damaged, call, tally);
     }
 }
 
+/// Whatever walk, register, entries of rows and operands are.
+fn assert_named(broken: &Desk, (name, refusal, _): Break, tally: &mut Tally) {
+    for &call in ALL {
+        let (number, _) = ask(&mut broken.clone(), call, tally);
+        assert_eq!(number, refusal.number(), "{name}: {call:?} on {broken:?}");
+    }
+    *tally.breaks.entry(name).or_default() += 1;
+}
+
 #[test]
 fn calls_on_small_sheets() {
     let mut random = Random::new(0x5EED_0001);
-    let mut tally = Tally::new();
+    let mut tally = Tally::default();
     for _ in 0..1_200 {
         let sheet = random.small_sheet();
         trial(&mut random, sheet, &mut tally);
     }
-    let calls: usize = tally.values().sum();
+    let calls: usize = tally.answers.values().sum();
     assert!(calls > 50_000, "{calls} calls");
     for (call, numbers) in ANSWERS {
         for &number in numbers {
-            let times = tally.get(&(call, number)).copied().unwrap_or(0);
+            let times = tally.answers.get(&(call, number)).copied().unwrap_or(0);
             assert!(times >= 5, "{call:?} gave {number} only {times} times");
         }
     }
+    assert_every_break_is_met(&tally.breaks);
 }
 
 #[test]
 fn calls_on_larger_sheets() {
     let mut random = Random::new(0x5EED_0002);
-    let mut tally = Tally::new();
+    let mut tally = Tally::default();
+    let mut periods = BTreeSet::new();
     for _ in 0..40 {
         let names = random.with_edges(1, 125) as usize;
         let steps = random.with_edges(1, 60) as usize;
         let tranches = random.with_edges(1, 8) as usize;
         let sheet = random.sheet(names, steps, tranches);
+        periods.insert(sheet.starts.len());
         trial(&mut random, sheet, &mut tally);
     }
+    assert!(periods.is_superset(&BTreeSet::from([1, 2, 3, 16])));
 }
 
 /// The largest tree, to the root in uneven calls.
 #[test]
 fn the_largest_tree() {
     let mut random = Random::new(0x5EED_0003);
-    let mut tally = Tally::new();
+    let mut tally = Tally::default();
     let sheet = random.sheet(125, 3_650, 8);
     let mut desk = walked(&mut random, sheet, &mut tally);
     while desk.walk.position > 0 {
@@ -335,7 +380,7 @@ fn the_largest_tree() {
 #[test]
 fn open_walks() {
     let mut random = Random::new(0x5EED_0004);
-    let mut tally = Tally::new();
+    let mut tally = Tally::default();
     for _ in 0..300 {
         let sheet = random.small_sheet();
         let mut desk = walked(&mut random, sheet, &mut tally);

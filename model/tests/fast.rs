@@ -2,11 +2,12 @@
 
 mod common;
 
-use common::{plain_sheet, Random};
+use common::{breaks, plain_sheet, Random};
 use lavroudem_model::fast;
 use lavroudem_model::register;
 use lavroudem_model::sheet::Sheet;
 use lavroudem_model::walk::{self, row_length, Walk};
+use std::collections::BTreeSet;
 
 /// Opens and walks back in two calls, then compares rows, values and the
 /// distribution.
@@ -54,10 +55,13 @@ fn random_sheets() {
         let first = random.below(sheet.steps + 1);
         same_as_the_model(&sheet, first);
     }
-    for _ in 0..5 {
+    let mut periods = BTreeSet::new();
+    for _ in 0..16 {
         let sheet = random.sheet(125, 40, 8);
+        periods.insert(sheet.starts.len());
         same_as_the_model(&sheet, 17);
     }
+    assert!(periods.is_superset(&BTreeSet::from([1, 2, 3, 16])));
 }
 
 #[test]
@@ -77,7 +81,12 @@ fn damaged_sheets_are_refused_alike() {
         |s| s.accruals[0] = u64::MAX,
         |s| s.coupons[2] = 10_000_001,
     ];
-    for change in changes {
+    let of_periods = breaks().map(|(_, _, change)| change);
+    let both: [fn(&mut Sheet); 2] = [
+        |s| (s.starts[0], s.attachments[1]) = (2, s.attachments[0]),
+        |s| (s.starts[0], s.hazards[0]) = (2, 1_000_000_001),
+    ];
+    for change in changes.into_iter().chain(of_periods).chain(both) {
         let mut sheet = plain_sheet(3, 3, 2);
         change(&mut sheet);
         let mut row = vec![0; 4];

@@ -427,7 +427,7 @@ fn other_premium_legs(sheet: &Sheet, left: &[u128]) -> Vec<u128> {
             } else {
                 0
             };
-            half(sheet.hazard(k) * next + sheet.survival(k) * with_payment(k))
+            half(sheet.hazard(step, k) * next + sheet.survival(step, k) * with_payment(k))
         };
         let before = (0..left.len()).map(|k| half(sheet.discount(step) * expected(k)));
         legs = before.collect();

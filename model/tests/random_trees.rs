@@ -78,7 +78,7 @@ fn has_inner_accrual(sheet: &Sheet, accrual: u64) -> bool {
 
 #[test]
 fn trees_reach_every_extreme() {
-    let extremes: [(&str, Trait); 12] = [
+    let extremes: [(&str, Trait); 17] = [
         ("hazard 0", |s| s.hazards.contains(&0)),
         ("hazard B", |s| s.hazards.contains(&B)),
         ("recovery 0", |s| s.recovery == 0),
@@ -90,6 +90,13 @@ fn trees_reach_every_extreme() {
         ("attachment 0", |s| s.attachments.contains(&0)),
         ("attachment B", |s| s.attachments.contains(&B)),
         ("most names and steps", |s| s.names == 4 && s.steps == 6),
+        ("one period", |s| s.starts.len() == 1 && s.steps > 1),
+        ("two periods", |s| s.starts.len() == 2 && s.steps > 2),
+        ("three periods", |s| s.starts.len() == 3 && s.steps > 3),
+        ("a period a step", |s| s.starts.len() == 6),
+        ("a last period of one step", |s| {
+            s.steps > 3 && s.starts.len() == 2 && s.starts[1] == s.steps as u64
+        }),
         ("fewest names and steps", |s| s.names == 1 && s.steps == 1),
     ];
     let trees = trees();
@@ -206,9 +213,9 @@ fn one_exact_step(
     count: usize,
     branch: impl Fn(usize) -> Natural,
 ) -> Natural {
-    let mut sum = branch(count).times(&Natural::new(sheet.survival(count)));
+    let mut sum = branch(count).times(&Natural::new(sheet.survival(step, count)));
     if count < sheet.names {
-        let up = branch(count + 1).times(&Natural::new(sheet.hazard(count)));
+        let up = branch(count + 1).times(&Natural::new(sheet.hazard(step, count)));
         sum = sum.plus(&up);
     }
     sum.times(&Natural::new(sheet.discount(step)))

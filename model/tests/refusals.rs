@@ -1,9 +1,9 @@
-//! Refusals 1 to 8 of a sheet, each at both sides of its limits, and their
+//! Refusals 1 to 8 and 25 of a sheet, each at both sides of its limits, and their
 //! order.
 
 mod common;
 
-use common::{plain_sheet, B};
+use common::{breaks, plain_sheet, set_starts, Random, B};
 use lavroudem_model::refusal::Refusal;
 use lavroudem_model::sheet::{check, Sheet};
 
@@ -35,10 +35,13 @@ fn numbers_and_words() {
         (Refusal::Unknown, 18, "unknown"),
         (Refusal::CutShort, 19, "cut short"),
         (Refusal::TooMany, 20, "too many"),
+        (Refusal::Periods, 25, "periods"),
     ];
+    assert_eq!(table.map(|(refusal, _, _)| refusal), Refusal::ALL);
     for (refusal, number, word) in table {
         assert_eq!(refusal.number(), number);
         assert_eq!(refusal.word(), word);
+        assert_eq!(refusal.stops_a_deck(), (18..=20).contains(&number));
     }
 }
 
@@ -66,9 +69,10 @@ macro_rules! cases {
 fn list(sheet: &mut Sheet, place: usize) -> &mut Vec<u64> {
     match place {
         0 => &mut sheet.attachments,
-        1 => &mut sheet.hazards,
-        2 => &mut sheet.discounts,
-        3 => &mut sheet.accruals,
+        1 => &mut sheet.starts,
+        2 => &mut sheet.hazards,
+        3 => &mut sheet.discounts,
+        4 => &mut sheet.accruals,
         _ => &mut sheet.coupons,
     }
 }
@@ -84,6 +88,13 @@ fn accruing(accruals: Vec<u64>) -> Sheet {
         accruals: accruals.clone(),
         ..plain_sheet(3, accruals.len(), 2)
     }
+}
+
+/// A sheet of 17 steps with so many periods, each but the last of one step.
+fn periodic(periods: u64) -> Sheet {
+    let mut sheet = plain_sheet(3, 17, 2);
+    set_starts(&mut sheet, &Vec::from_iter(1..=periods));
+    sheet
 }
 
 /// On a sheet of 3 names, 3 steps and 2 tranches, which is accepted.
@@ -107,9 +118,18 @@ fn cases() -> Vec<Case> {
         1 1: s.tranches = usize::MAX;
         0 1: *s = plain_sheet(125, 3_650, 8);
 
-        2 5: list(s, k).pop();
-        2 5: list(s, k).clear();
-        2 5: lengthen(list(s, k));
+        2 6: list(s, k).pop();
+        2 6: list(s, k).clear();
+        2 6: lengthen(list(s, k));
+        // n hazards for each start, and 1 to 16 starts.
+        2 1: set_starts(s, &[]);
+        2 1: { set_starts(s, &[1, 3]); s.hazards.truncate(3) };
+        2 1: { set_starts(s, &[1, 3]); s.hazards.pop() };
+        2 1: { set_starts(s, &[1, 3]); s.hazards.push(0) };
+        2 1: { set_starts(s, &[1, 3]); s.starts.pop() };
+        0 1: *s = periodic(16);
+        2 1: *s = periodic(17);
+        2 1: { *s = periodic(16); s.hazards.pop() };
 
         0 1: s.recovery = 0;
         0 1: s.recovery = B;
@@ -128,10 +148,31 @@ fn cases() -> Vec<Case> {
         4 1: s.attachments = vec![0, B + 1, B];
         4 1: s.attachments = vec![0, 1, u64::MAX];
 
+        0 1: set_starts(s, &[1]);
+        0 1: set_starts(s, &[1, 2]);
+        0 1: set_starts(s, &[1, 3]);
+        0 1: set_starts(s, &[1, 2, 3]);
+        25 1: set_starts(s, &[0]);
+        25 1: set_starts(s, &[2]);
+        25 1: set_starts(s, &[u64::MAX]);
+        25 1: set_starts(s, &[0, 1]);
+        25 1: set_starts(s, &[2, 3]);
+        25 1: set_starts(s, &[1, 1]);
+        25 1: set_starts(s, &[1, 0]);
+        25 1: set_starts(s, &[1, 2, 2]);
+        25 1: set_starts(s, &[1, 3, 2]);
+        25 1: set_starts(s, &[1, 4]);
+        25 1: set_starts(s, &[1, 3, 4]);
+        25 1: set_starts(s, &[1, 4, 3]);
+        25 1: set_starts(s, &[1, u64::MAX]);
+
         0 3: s.hazards[k] = 0;
         0 3: s.hazards[k] = B;
         5 3: s.hazards[k] = B + 1;
         5 3: s.hazards[k] = u64::MAX;
+
+        0 6: { set_starts(s, &[1, 3]); s.hazards[k] = B };
+        5 6: { set_starts(s, &[1, 3]); s.hazards[k] = B + 1 };
 
         6 3: s.discounts[k] = 0;
         0 3: s.discounts[k] = 1;
@@ -181,22 +222,24 @@ fn limits_of_a_sheet() {
 
 type Fault = fn(&mut Sheet);
 
-/// Every set of the eight faults is tried; the lowest number must win.
+/// Every set of the nine faults is tried; the first of them must win, and 25
+/// stands between 4 and 5.
 #[test]
 fn first_fault_is_named() {
-    let faults: [(Refusal, Fault); 8] = [
+    let faults: [(Refusal, Fault); 9] = [
         (Refusal::Pool, |s| s.names = 126),
         (Refusal::Length, |s| s.hazards.push(0)),
         (Refusal::Recovery, |s| s.recovery = B + 1),
         (Refusal::Attachments, |s| {
             s.attachments[1] = s.attachments[0]
         }),
+        (Refusal::Periods, |s| s.starts[0] = 2),
         (Refusal::Hazard, |s| s.hazards[1] = B + 1),
         (Refusal::Discount, |s| s.discounts[1] = 0),
         (Refusal::Accrual, |s| s.accruals[2] = 0),
         (Refusal::Coupon, |s| s.coupons[0] = 10_000_001),
     ];
-    for set in 1_u32..256 {
+    for set in 1_u32..512 {
         let mut sheet = plain_sheet(3, 3, 2);
         for (place, (_, fault)) in faults.iter().enumerate() {
             if set >> place & 1 == 1 {
@@ -205,5 +248,23 @@ fn first_fault_is_named() {
         }
         let first = set.trailing_zeros() as usize;
         assert_eq!(check(&sheet), Err(faults[first].0), "{set:#b}");
+    }
+}
+
+/// On sheets of any number of periods, small and large.
+#[test]
+fn every_break_of_the_periods_is_refused() {
+    let mut random = Random::new(25);
+    for at in 0..200 {
+        let sheet = match at % 4 {
+            0 => random.sheet(5, 60, 2),
+            _ => random.small_sheet(),
+        };
+        assert_eq!(check(&sheet), Ok(()));
+        for (name, refusal, change) in breaks() {
+            let mut broken = sheet.clone();
+            change(&mut broken);
+            assert_eq!(check(&broken), Err(refusal), "{name}: {sheet:?}");
+        }
     }
 }

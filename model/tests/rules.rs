@@ -44,6 +44,7 @@ checks! {
     worked_deck_is_described;
     three_names_are_described;
     whole_pool_is_described;
+    two_periods_are_described;
     refusals_are_the_models;
     named_refusals_are_the_models;
     commands_are_the_models;
@@ -61,6 +62,7 @@ checks! {
     half_is_the_models;
     forward_formula_is_the_models;
     leg_formulas_are_the_models;
+    hazard_formula_is_the_models;
     figure_formulas_are_the_models;
     entry_formulas_are_the_models;
     loss_formulas_are_the_models;
@@ -84,7 +86,19 @@ fn refusals_are_the_models(page: &str) -> Found {
         same(number, &refusal.number().to_string(), word)?;
         same(word, refusal.word(), number)?;
     }
-    Ok(())
+    numbers_in_between_are_free(page)
+}
+
+/// The numbers that no refusal has, and the one that is out of turn.
+fn numbers_in_between_are_free(page: &str) -> Found {
+    let last = Refusal::Periods.number();
+    let taken = |number: &u8| Refusal::ALL.iter().any(|known| known.number() == *number);
+    let free: Vec<u8> = (1..=last).filter(|number| !taken(number)).collect();
+    let (first, end) = (free[0], free[free.len() - 1]);
+    same(free.len(), usize::from(end - first + 1), "a gap")?;
+    let before = Refusal::Hazard.number();
+    let free = format!("The numbers {first} to {end} stand for nothing,");
+    says(page, &format!("{free} and {last} comes before {before}:"))
 }
 
 fn named_refusals_are_the_models(page: &str) -> Found {
@@ -156,17 +170,19 @@ fn links_lead_somewhere(page: &str) -> Found {
 const PHRASES: &[&str] = &[
     "m at the end, 0 at the root.",
     "may be any number of 64 bits",
-    "p(0) to p(n - 1) |",
+    "| p(s, 0) to p(s, n - 1), for each period |",
+    "The first start is 1 and the others rise strictly, none above m.",
     "| v(1) to v(m) |",
     "| a(1) to a(m) |",
     "Tranche j, counted from 0, lies between point j and point j + 1. The first point may be above 0",
-    "takes the count from k to k + 1. At the count n nobody is left, so p(n) = 0.",
+    "takes the count from k to k + 1. Its period is that of step s,",
+    "At the count n nobody is left, so p(s, n) = 0.",
     "A unit at step i is worth v(i) / B units at step i - 1.",
     "just when its accrual is not 0. The last accrual is at least 1,",
     "pays M(k + 1) - M(k) at step i, where k is the count before it.",
     "prints 12 defaults on two lines, of which the second is for 13.",
     "one for each step s from i + 1 to m,",
-    "has the chance p(k(s - 1)), a stay the chance B - p(k(s - 1)).",
+    "has the chance p(s, k(s - 1)), a stay the chance B - p(s, k(s - 1)).",
     "is multiplied by v(i + 1) × ... × v(s).",
     "counts the payments M(k(s)) - M(k(s - 1)), which are 0 for a stay.",
     "one whole number over B^(2h + 1): B^h for the chances, B^h for the discounts, one B for the cash:",
@@ -194,8 +210,10 @@ const PHRASES: &[&str] = &[
     "| the number's byte is neither FF nor A5 |",
     "| a back would go below position 0, or a forward above m |",
     "| J of the index is 0 |",
+    "| the first start is not 1, starts do not rise strictly, or one is above m |\n",
     "| by size J of the tranche is 1,000,000 times J of the index, or more |",
     "**Sheet commands**, 01 to 05, enter",
+    "the sheet of a deck has one period, from step 1 on.",
     "names, steps, tranches, recovery and number are all 0,",
     "**Calls**, 06 to 0C, print one line each: the word, then the refusal's number alone, or 0 and the answer.",
     "The byte 0A ends the line.",
@@ -207,6 +225,8 @@ const PHRASES: &[&str] = &[
     "so the distance may be 1.",
     "One step and one premium date allow 1.5.",
     "for the count 1 gives",
+    "The first period has the steps 1 and 2, the second step 3 alone:",
+    "The step from position 2 leads into step 3, so it has the hazards of the second period:",
     "a product that needs more than 64 bits",
 ];
 
@@ -296,13 +316,14 @@ fn amortisation_is_the_models(page: &str) -> Found {
     Ok(())
 }
 
-/// Rooms for the largest sheet; those of the listing stand in the engine.
+/// Rooms for the largest sheet of a deck, with its one start; those of the
+/// listing stand in the engine.
 fn rooms_are_the_engines(page: &str) -> Found {
     let rows = table(page, "| Room | Size |")?;
     let sizes: Result<Vec<i128>, String> = rows.iter().map(|row| whole(row[1])).collect();
     let sizes = sizes?;
     same(sizes.len(), 4, "rooms")?;
-    let numbers = 2 * (MAX_TRANCHES + 1) + MAX_NAMES + 2 * MAX_STEPS;
+    let numbers = 2 * (MAX_TRANCHES + 1) + 1 + MAX_NAMES + 2 * MAX_STEPS;
     let entries = (MAX_TRANCHES + 1) * (MAX_NAMES + 1);
     same(&sizes[..2], &[numbers as i128, entries as i128], "rooms")?;
     let source = fs::read_to_string(root().join("crates/deck/src/lib.rt")).unwrap();

@@ -5,7 +5,8 @@
 //! may write a register hands it on.
 //!
 //! Nor does a contract say in which form a figure is worked out: that a
-//! tranche's loss has three cases, and stands in one function.
+//! tranche's loss has three cases, and stands in one function. Or how often:
+//! that the period of a step is found once.
 
 use std::collections::BTreeSet;
 use std::fs;
@@ -349,6 +350,26 @@ fn tranche_loss_has_three_cases() {
         .map(|it| it.place.as_str())
         .collect();
     assert_eq!(takers, LOSS_TAKERS);
+}
+
+/// The two that look a period up, in each turn of their loop.
+const PERIOD_FINDERS: [&str; 2] = [
+    "backward/src/lib.rt: walk_with_tables",
+    "forward/src/lib.rt: distribute",
+];
+
+#[test]
+fn the_period_of_a_step_is_found_once() {
+    let mut finders = Vec::new();
+    for function in functions() {
+        let places = |name: &str| function.body.iter().filter(|&it| it == name).count();
+        let loops = places("while");
+        for _ in 0..places("hazards_from") {
+            assert_eq!(loops, 1, "{} has another loop", function.place);
+            finders.push(function.place.clone());
+        }
+    }
+    assert_eq!(finders, PERIOD_FINDERS);
 }
 
 /// What a program's input is read into.

@@ -88,10 +88,10 @@ fn premium_is_paid_on_the_count_after_the_step() {
     }
 }
 
-/// The mistaken step: the row is changed while it is read.
+/// The mistaken first step: the row is changed while it is read.
 fn in_place_from_below(sheet: &Sheet, row: &mut [u128]) {
     for count in 0..sheet.names {
-        let moved = half(row[count] * sheet.hazard(count));
+        let moved = half(row[count] * sheet.hazard(1, count));
         row[count] -= moved;
         row[count + 1] += moved;
     }

@@ -141,7 +141,8 @@ fn numbers_of_the_plain_trial_are_seen() {
 fn every_refusal_is_tried() {
     let listing = listing();
     let answered: Vec<&str> = listing.lines().flat_map(numbers_answered).collect();
-    for refusal in &Refusal::ALL[..17] {
+    let by_calls = |refusal: &Refusal| !refusal.stops_a_deck();
+    for refusal in Refusal::ALL.into_iter().filter(by_calls) {
         let number = refusal.number().to_string();
         assert!(answered.contains(&number.as_str()), "{refusal:?}");
     }

@@ -134,13 +134,14 @@ fn number(field: &str) -> Option<i128> {
     (number.to_string() == field).then_some(i128::from(number))
 }
 
-/// Those of calls; 18 to 20 stop the deck.
+/// Those of a deck's calls; 18 to 20 stop the deck, and its one period is
+/// never at fault.
 fn refusal(number: i128) -> Result<Refusal, String> {
     let known = Refusal::ALL
         .into_iter()
-        .take_while(|&refusal| refusal != Refusal::Unknown)
+        .filter(|&refusal| !refusal.stops_a_deck() && refusal != Refusal::Periods)
         .find(|refusal| i128::from(refusal.number()) == number);
-    known.ok_or_else(|| format!("no call is refused {number}"))
+    known.ok_or_else(|| format!("no call of a deck is refused {number}"))
 }
 
 fn no_line(line: &str) -> String {

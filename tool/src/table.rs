@@ -272,6 +272,7 @@ fn explanation(refusal: Refusal) -> &'static str {
         Refusal::Unknown => "no command has this byte; the deck is read no further",
         Refusal::CutShort => "the deck ends within a command",
         Refusal::TooMany => "a second pool, a list too long, or a deck above 65536 bytes",
+        Refusal::Periods => "not met by a deck, whose one period starts at step 1",
     }
 }
 

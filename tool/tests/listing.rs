@@ -61,9 +61,10 @@ fn a_line_of_no_listing_is_a_mistake() {
         assert_eq!(reason("open", &format!("{line}\n")), no_line(line));
     }
     assert_eq!(reason("open", "open 0\r\n"), no_line("open 0\\r"));
-    assert_eq!(reason("open", "open 21\n"), "line 1: no call is refused 21");
-    assert_eq!(reason("open", "open 18\n"), "line 1: no call is refused 18");
-    assert_eq!(reason("open", "open -1\n"), "line 1: no call is refused -1");
+    for number in [21, 18, -1, 25] {
+        let refused = format!("line 1: no call of a deck is refused {number}");
+        assert_eq!(reason("open", &format!("open {number}\n")), refused);
+    }
     let figures = |word: &str| format!("line 1: these are not the figures of `{word}`");
     assert_eq!(reason("value 0 0", "value 0 1 2\n"), figures("value"));
     assert_eq!(reason("value 0 0", "value 0\n"), figures("value"));

@@ -14,6 +14,7 @@ const POOL: Pool = Pool {
 
 const LISTS: Lists = Lists {
     attachments: &[0, 300_000_000],
+    starts: &[1],
     hazards: &[100_000_000, 200_000_000],
     discounts: &[1_000_000_000, 900_000_000],
     accruals: &[0, 1_000_000_000],

@@ -26,6 +26,7 @@ pub(crate) struct Span {
 pub(crate) struct Layout {
     pub(crate) pool: Pool,
     pub(crate) attachments: Span,
+    pub(crate) starts: Span,
     pub(crate) hazards: Span,
     pub(crate) discounts: Span,
     pub(crate) accruals: Span,
@@ -194,7 +195,7 @@ pub fn withdraw(register: &mut [u8], number: u8) -> Result<(), Refusal> {
 }
 
 /// Starts a walk at the last step, whatever walk is given, and fills both
-/// rows with zeros; they may hold anything before. Refusals 1 to 10.
+/// rows with zeros; they may hold anything before. Refusals 1 to 10 and 25.
 #[inline]
 pub fn open(
     walk: Walk,
@@ -224,7 +225,7 @@ pub fn open(
 }
 
 /// Takes both rows so many steps back, 0 included, and gives the new
-/// position. Refusals 1 to 13.
+/// position. Refusals 1 to 13 and 25.
 #[inline]
 pub fn back(
     walk: Walk,
@@ -255,7 +256,7 @@ pub fn back(
 }
 
 /// What a tranche, 0 to tranches (the index), is worth at a default count, 0
-/// to names. Refusals 1 to 12 and 14.
+/// to names. Refusals 1 to 12, 14 and 25.
 #[inline]
 pub fn value(
     walk: Walk,
@@ -294,7 +295,7 @@ pub fn value(
 
 /// How much of the index, in millionths of the whole pool's, hedges the whole
 /// tranche against the next default, at a default count below names. Refusals
-/// 1 to 12 and 14 to 16.
+/// 1 to 12, 14 to 16 and 25.
 #[inline]
 pub fn hedge_ratio(
     walk: Walk,
@@ -327,7 +328,7 @@ pub fn hedge_ratio(
 }
 
 /// Fills a row with the chance of each default count, 0 to names, after so
-/// many steps from no default, in billionths. Refusals 1 to 10 and 13.
+/// many steps from no default, in billionths. Refusals 1 to 10, 13 and 25.
 #[inline]
 pub fn forward(
     sheet: &Sheet,

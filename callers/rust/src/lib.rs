@@ -15,6 +15,7 @@
 //! };
 //! let lists = Lists {
 //!     attachments: &[0, 300_000_000],
+//!     starts: &[1],
 //!     hazards: &[100_000_000, 200_000_000],
 //!     discounts: &[1_000_000_000, 900_000_000],
 //!     accruals: &[0, 1_000_000_000],
@@ -74,7 +75,7 @@ pub mod lent {
 
 /// The version of the archive that this crate is written for, and of its C
 /// header. The first call panics on an archive of another one.
-pub const VERSION: u64 = 2;
+pub const VERSION: u64 = 3;
 
 /// The whole pool in units; also the 1 of recovery, hazards and discounts.
 pub const ONE: u64 = 1_000_000_000;
@@ -83,6 +84,7 @@ pub const MAX_NAMES: usize = 125;
 pub const MAX_STEPS: usize = 3_650;
 /// The index not counted.
 pub const MAX_TRANCHES: usize = 8;
+pub const MAX_PERIODS: usize = 16;
 /// The most that all accruals of a sheet sum to: ten years.
 pub const MAX_ACCRUALS: u64 = 10 * ONE;
 /// 10,000 basis points.
@@ -103,7 +105,8 @@ pub const WITHDRAWN: u8 = 0x00;
 /// it.
 pub const BLANK_REGISTER: [u8; REGISTER_LENGTH] = [UNISSUED; REGISTER_LENGTH];
 
-/// Runs a deck on a blank register of its own and gives its listing.
+/// Runs a deck on a blank register of its own and gives its listing. A sheet
+/// of a deck has one period.
 ///
 /// ```
 /// // An open before any pool is known.

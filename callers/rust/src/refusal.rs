@@ -80,6 +80,8 @@ refusals! {
     Recovery, 3, "recovery";
     /// Attachment points are not strictly rising, or above 1.
     Attachments, 4, "cuts";
+    /// Starts are not strictly rising, not from 1, or above steps.
+    Periods, 25, "periods";
     /// One is above 1.
     Hazard, 5, "hazard";
     /// One is 0 or above 1.

@@ -19,14 +19,51 @@ pub struct Pool {
     pub number: u8,
 }
 
-/// The lists of a sheet.
+/// The lists of a sheet. Hazards that stay the same throughout are one
+/// period, which starts at step 1. Here they rise at step 3:
+///
+/// ```
+/// use lavroudem::{Lists, Pool, Refusal, Sheet};
+///
+/// let pool = Pool {
+///     names: 2,
+///     steps: 3,
+///     tranches: 1,
+///     recovery: 0,
+///     number: 7,
+/// };
+/// let lists = Lists {
+///     attachments: &[0, 1_000_000_000],
+///     starts: &[1, 3],
+///     hazards: &[100_000_000, 200_000_000, 300_000_000, 400_000_000],
+///     discounts: &[1_000_000_000; 3],
+///     accruals: &[0, 0, 1_000_000_000],
+///     coupons: &[1_000_000, 500_000],
+/// };
+/// let mut register = lavroudem::BLANK_REGISTER;
+/// lavroudem::issue(&mut register, pool.number)?;
+///
+/// let sheet = Sheet::new(pool, lists);
+/// let chances = sheet.forward(&register, 3)?;
+/// assert_eq!(chances, [567_000_000, 345_000_000, 88_000_000]);
+///
+/// // The second period would start with the first.
+/// let starts = &[1, 1];
+/// let sheet = Sheet::new(pool, Lists { starts, ..lists });
+/// assert_eq!(sheet.forward(&register, 3), Err(Refusal::Periods));
+/// # Ok::<(), Refusal>(())
+/// ```
 #[derive(Clone, Copy, Debug, Default, PartialEq, Eq, Hash)]
 pub struct Lists<'a> {
     /// tranches + 1 of them, strictly rising. Tranche j lies between entries
     /// j and j + 1.
     pub attachments: &'a [u64],
-    /// As many as names. Entry k is the chance that a step takes k defaults
-    /// to k + 1.
+    /// 1 to [`MAX_PERIODS`](crate::MAX_PERIODS) of them, the first 1, strictly
+    /// rising, none above steps. Entry p is the first step of period p.
+    pub starts: &'a [u64],
+    /// As many as names for each start, period by period. Entry p x names + k
+    /// is the chance in period p that a step takes k defaults to k + 1. The
+    /// move to a step goes by the period that holds that step.
     pub hazards: &'a [u64],
     /// As many as steps. Entry i - 1 brings cash from step i to step i - 1.
     pub discounts: &'a [u64],
@@ -62,6 +99,7 @@ impl Sheet {
         let layout = Layout {
             pool,
             attachments: append(lists.attachments),
+            starts: append(lists.starts),
             hazards: append(lists.hazards),
             discounts: append(lists.discounts),
             accruals: append(lists.accruals),
@@ -78,6 +116,7 @@ impl Sheet {
         let list = |span: &Span| &self.numbers[span.at..span.at + span.length];
         Lists {
             attachments: list(&self.layout.attachments),
+            starts: list(&self.layout.starts),
             hazards: list(&self.layout.hazards),
             discounts: list(&self.layout.discounts),
             accruals: list(&self.layout.accruals),
@@ -85,14 +124,14 @@ impl Sheet {
         }
     }
 
-    /// Starts a walk at the last step, with rows of its own. Refusals 1 to
-    /// 10.
+    /// Starts a walk at the last step, with rows of its own. Refusals 1 to 10
+    /// and 25.
     pub fn open(&self, register: &[u8]) -> Result<OpenWalk<'_>, Refusal> {
         OpenWalk::open(self, register)
     }
 
     /// The chance of each default count, 0 to names, after so many steps from
-    /// no default, in billionths. Refusals 1 to 10 and 13.
+    /// no default, in billionths. Refusals 1 to 10, 13 and 25.
     pub fn forward(&self, register: &[u8], steps: usize) -> Result<Vec<u64>, Refusal> {
         let mut row = vec![0; self.forward_row_length()];
         lent::forward(self, register, &mut row, steps)?;

@@ -18,6 +18,7 @@ const POOL: Pool = Pool {
 
 const LISTS: Lists = Lists {
     attachments: &[0, 300_000_000],
+    starts: &[1],
     hazards: &[100_000_000, 200_000_000],
     discounts: &[1_000_000_000, 900_000_000],
     accruals: &[0, 1_000_000_000],
@@ -165,8 +166,11 @@ fn rows_of_another_length() {
 
 #[test]
 fn lists_of_another_length() {
-    let spoils: [fn(&mut Lists); 5] = [
+    let spoils: [fn(&mut Lists); 8] = [
         |lists| lists.attachments = &[],
+        |lists| lists.starts = &[],
+        |lists| (lists.starts, lists.hazards) = (&[], &[]),
+        |lists| lists.starts = &[1, 2],
         |lists| lists.hazards = &[0],
         |lists| lists.discounts = &[1, 1, 1],
         |lists| lists.accruals = &[1],
@@ -178,6 +182,45 @@ fn lists_of_another_length() {
         let spoil = |l: &mut Lent| l.sheet = Sheet::new(POOL, lists);
         refused(&WITH_ROWS, Refusal::Length, spoil);
         refused(&[forward], Refusal::Length, spoil);
+    }
+}
+
+/// Of the small sheet, which has two steps.
+#[test]
+fn starts_that_make_no_periods() {
+    let starts: [&[u64]; 7] = [&[0], &[2], &[u64::MAX], &[1, 1], &[2, 1], &[1, 3], &[0, 1]];
+    for starts in starts {
+        let hazards = &[0; 4][..2 * starts.len()];
+        let lists = Lists {
+            starts,
+            hazards,
+            ..LISTS
+        };
+        let spoil = |l: &mut Lent| l.sheet = Sheet::new(POOL, lists);
+        refused(&WITH_ROWS, Refusal::Periods, spoil);
+        refused(&[forward], Refusal::Periods, spoil);
+    }
+}
+
+/// Attachment points are looked at before starts, and starts before hazards.
+#[test]
+fn starts_are_checked_in_their_turn() {
+    let above: &[u64] = &[ONE + 1, 0];
+    let spoils = [
+        (Refusal::Attachments, above, &[2], above),
+        (Refusal::Periods, LISTS.attachments, &[2], above),
+        (Refusal::Hazard, LISTS.attachments, &[1], above),
+    ];
+    for (refusal, attachments, starts, hazards) in spoils {
+        let lists = Lists {
+            attachments,
+            starts,
+            hazards,
+            ..LISTS
+        };
+        let spoil = |l: &mut Lent| l.sheet = Sheet::new(POOL, lists);
+        refused(&WITH_ROWS, refusal, spoil);
+        refused(&[forward], refusal, spoil);
     }
 }
 

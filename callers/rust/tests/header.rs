@@ -6,6 +6,7 @@ use std::fs;
 use std::path::Path;
 
 const HEADER: &str = include_str!("../../c/lavroudem.h");
+const REFUSALS: &str = include_str!("../src/refusal.rs");
 
 #[test]
 fn limits_and_bytes_are_the_same() {
@@ -15,6 +16,7 @@ fn limits_and_bytes_are_the_same() {
         ("MAX_NAMES", MAX_NAMES as u64),
         ("MAX_STEPS", MAX_STEPS as u64),
         ("MAX_TRANCHES", MAX_TRANCHES as u64),
+        ("MAX_PERIODS", MAX_PERIODS as u64),
         ("MAX_ACCRUALS", MAX_ACCRUALS),
         ("MAX_COUPON", MAX_COUPON),
         ("MAX_DECK", MAX_DECK as u64),
@@ -39,9 +41,14 @@ fn defined(name: &str) -> &str {
     rest.split([' ', '\n']).next().unwrap()
 }
 
+/// The refusals in the order of their checks, with a gap in the numbers.
+fn checked() -> impl Iterator<Item = u8> {
+    (1..=4).chain([25]).chain(5..=20)
+}
+
 #[test]
 fn refusals_are_the_same() {
-    for number in 1..=20 {
+    for number in checked() {
         let refusal = Refusal::from_number(number).unwrap();
         assert_eq!(refusal.number(), number);
         let name = screaming(&format!("{refusal:?}"));
@@ -53,8 +60,24 @@ fn refusals_are_the_same() {
         assert!(found, "{entry}");
     }
     assert_eq!(Refusal::from_number(0), None);
-    assert_eq!(Refusal::from_number(21), Some(Refusal::Other(21)));
-    assert_eq!(HEADER.matches("LAVROUDEM_REFUSED_").count(), 20);
+    for number in (21..=24).chain(26..=u8::MAX) {
+        assert_eq!(Refusal::from_number(number), Some(Refusal::Other(number)));
+    }
+}
+
+#[test]
+fn refusals_stand_in_the_order_of_their_checks() {
+    let expected: Vec<u8> = checked().collect();
+    let entries = HEADER.split("LAVROUDEM_REFUSED_").skip(1);
+    let numbers = entries.map(|entry| entry.split([' ', ',', '\n']).nth(2).unwrap());
+    let in_header: Vec<u8> = numbers.map(|number| number.parse().unwrap()).collect();
+    assert_eq!(in_header, expected);
+    let (_, table) = REFUSALS.split_once("\nrefusals! {\n").unwrap();
+    let (table, _) = table.split_once("\n}\n").unwrap();
+    let rows = table.lines().filter(|line| line.ends_with("\";"));
+    let numbers = rows.map(|row| row.split(", ").nth(1).unwrap());
+    let in_crate: Vec<u8> = numbers.map(|number| number.parse().unwrap()).collect();
+    assert_eq!(in_crate, expected);
 }
 
 /// `NoWalk` as C has it, `NO_WALK`.
@@ -88,16 +111,20 @@ fn one_archive_in_a_program() {
     assert!(package.lines().any(|line| line == "links = \"lavroudem\""));
 }
 
-/// The header's table of words, in the order of their numbers.
+/// The header's table of words, in the order of their numbers; a number that
+/// is none has an empty one.
 #[test]
 fn words_are_the_same() {
     let (_, rest) = HEADER.split_once("words[] = {").unwrap();
     let (table, _) = rest.split_once("};").unwrap();
     let words: Vec<&str> = table.split('"').skip(1).step_by(2).collect();
-    assert_eq!(words.len(), 21);
-    for number in 1..=20 {
-        let refusal = Refusal::from_number(number).unwrap();
-        assert_eq!(words[usize::from(number)], refusal.word());
+    assert_eq!(words.len(), 26);
+    for (word, number) in words.into_iter().zip(0..).skip(1) {
+        let expected = match Refusal::from_number(number).unwrap() {
+            Refusal::Other(_) => "",
+            refusal => refusal.word(),
+        };
+        assert_eq!(word, expected, "{number}");
     }
 }
 

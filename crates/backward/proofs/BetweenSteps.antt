@@ -8,6 +8,8 @@ use native.Mathlib.Numerals.{add-one}
 use lib.ListN.{length, getD}
 use Rattle.cash.specs.Units.{B}
 use Rattle.sheet.specs.Terms.{Terms, termsOf, bare}
+use Rattle.sheet.specs.Periods.{periodOf, hazardsAt, hazardsInto}
+use Rattle.sheet.proofs.Periods.{hazards-there}
 use Rattle.sheet.proofs.Limits.{accrual-most}
 use Rattle.tree.specs.Sheet.{outstandingOf, defaultOf, premiumOf}
 use Rattle.rows.specs.Tables.{tab, grid}
@@ -20,8 +22,9 @@ use Rattle.tables.proofs.Due.{Left, left-filled, accrued-left}
 use Rattle.backward.proofs.OneStep.{default-step, premium-step, defaults-fit, premiums-fit, premiums-low, rollable-back}
 
 -- After `done` of the steps from the rows d and p the rows are ds and ps, by lists and tables that are those of the sheet.
-pub record StepsDone (x : Terms) (d p : List ℕ) (position count : ℕ) (hazards discounts accruals paid left none ds ps : List ℕ) (done : ℕ) : Type 0 where
+pub record StepsDone (x : Terms) (d p : List ℕ) (position count : ℕ) (starts hazards discounts accruals paid left none ds ps : List ℕ) (done : ℕ) : Type 0 where
   pub ready : Rollable x d p position count
+  pub starts-is : starts ≡ x .starts
   pub hazards-is : hazards ≡ x .hazards
   pub discounts-is : discounts ≡ x .discounts
   pub accruals-is : accruals ≡ x .accruals
@@ -34,31 +37,32 @@ pub record StepsDone (x : Terms) (d p : List ℕ) (position count : ℕ) (hazard
   pub premiums : ps ≡ rolledBack x (premiumOf x) position done p
 
 -- Before the first step: the lists are parts of the sheet's numbers, and the tables are filled from them.
-module _ (pool : Pool) (attachments hazards discounts accruals a h v c : List ℕ)
-    (a-is : a ≡ attachments) (h-is : h ≡ hazards) (v-is : v ≡ discounts) (c-is : c ≡ accruals) where
+module _ (pool : Pool) (attachments starts hazards discounts accruals a b h v c : List ℕ)
+    (a-is : a ≡ attachments) (b-is : b ≡ starts) (h-is : h ≡ hazards) (v-is : v ≡ discounts) (c-is : c ≡ accruals) where
   abbrev x : Terms
-  x = termsOf pool attachments hazards discounts accruals
+  x = termsOf pool attachments starts hazards discounts accruals
 
   pub steps-none : (d p paid left before none : List ℕ) (position count : ℕ) → Rollable x d p position count
       → paid ≡ rowOf (bare pool a) (paymentOf (bare pool a))
       → left ≡ cond (dueIn c position count) (rowOf (bare pool a) (outstandingOf (bare pool a))) before
       → length before ≡ rowLength x → ((n : ℕ) → getD before n 0 ≡ 0) → length none ≡ rowLength x → ((n : ℕ) → getD none n 0 ≡ 0)
-      → StepsDone x d p position count h v c paid left none d p 0
+      → StepsDone x d p position count b h v c paid left none d p 0
   unfolding rolledBack rowOf
-  steps-none d p paid left before none position count r e f b o z n =
+  steps-none d p paid left before none position count r e f l o z n =
       record {
         ready = r;
+        starts-is = b-is;
         hazards-is = h-is;
         discounts-is = v-is;
         accruals-is = c-is;
         paid-is =
             e ∙ (λ t. rowOf (bare pool (a-is t)) (paymentOf (bare pool (a-is t))))
-            ∙ ap (rowOf (bare pool attachments)) (payment-bare pool attachments hazards discounts accruals);
+            ∙ ap (rowOf (bare pool attachments)) (payment-bare pool attachments starts hazards discounts accruals);
         left-is =
-            left-filled x (r .limits .tranches) position count left before b o
+            left-filled x (r .limits .tranches) position count left before l o
             (f ∙ (λ t. cond (dueIn (c-is t) position count) (rowOf (bare pool (a-is t)) (outstandingOf (bare pool (a-is t)))) before)
             ∙ ap (λ (g : ℕ → ℕ → ℕ). cond (dueIn accruals position count) (rowOf (bare pool attachments) g) before)
-            (outstanding-bare pool attachments hazards discounts accruals));
+            (outstanding-bare pool attachments starts hazards discounts accruals));
         none-long = z;
         none-zero = n;
         most = omega arith;
@@ -66,8 +70,8 @@ module _ (pool : Pool) (attachments hazards discounts accruals a h v c : List �
         premiums = refl;
       }
 
-module _ {x : Terms} {d p : List ℕ} {position count : ℕ} {hazards discounts accruals paid left none ds ps : List ℕ} {done : ℕ}
-    (g : StepsDone x d p position count hazards discounts accruals paid left none ds ps done) where
+module _ {x : Terms} {d p : List ℕ} {position count : ℕ} {starts hazards discounts accruals paid left none ds ps : List ℕ} {done : ℕ}
+    (g : StepsDone x d p position count starts hazards discounts accruals paid left none ds ps done) where
   pub now-rollable : Rollable x ds ps (position - done) (count - done)
   now-rollable = rw (g .defaults, g .premiums) (rollable-back x d p position count done (g .ready) (g .most))
 
@@ -96,11 +100,6 @@ module _ {x : Terms} {d p : List ℕ} {position count : ℕ} {hazards discounts 
     pub accrual-low : getD accruals i 0 ≤ B
     accrual-low = rw (g .accruals-is) (accrual-most x (g .ready .limits) i)
 
-    pub roll-fits : RowsFit (suc (x .tranches)) (x .names) ds hazards (getD discounts i 0) paid
-    roll-fits =
-        rw (g .hazards-is, g .discounts-is)
-        (defaults-fit x (g .ready .limits) i inside ds paid (next-rollable .defaults-long) (next-rollable .defaults-most) (g .paid-is))
-
     pub left-long : length left ≡ length ps
     left-long = g .left-is .long ∙ sym (next-rollable .premiums-long)
 
@@ -116,41 +115,61 @@ module _ {x : Terms} {d p : List ℕ} {position count : ℕ} {hazards discounts 
     pub premium-low : (n : ℕ) → n < length ps → getD ps n 0 ≤ 18 * B
     premium-low = premiums-low x (g .ready .limits) i inside ps (next-rollable .premiums-long) (next-rollable .premiums-most)
 
-    pub accrued-fits : (es : List ℕ) → es ≡ tab (length ps) (accruedAt (getD accruals i 0) left ps)
-        → RowsFit (suc (x .tranches)) (x .names) es hazards (getD discounts i 0) none
-    accrued-fits es e =
-        rw (g .hazards-is, g .discounts-is)
-        (premiums-fit x (g .ready .limits) i inside ps (rowOf x (outstandingOf x)) es none (next-rollable .premiums-long)
-        (next-rollable .premiums-most) refl (g .none-long) (g .none-zero) (accrued-is es e))
+    -- the starts and the hazards, as the step looks up those of its period
+    pub starts-there : (1 ≤ length starts) × (length starts ≤ 16)
+    starts-there = rw (g .starts-is) (g .ready .limits .curves .starts)
 
-    pub steps-more : (ds' es ps' : List ℕ)
-        → ds' ≡ grid (suc (x .tranches)) (suc (x .names)) (rolledIn (suc (x .names)) hazards (getD discounts i 0) paid ds)
-        → es ≡ tab (length ps) (accruedAt (getD accruals i 0) left ps)
-        → ps' ≡ grid (suc (x .tranches)) (suc (x .names)) (rolledIn (suc (x .names)) hazards (getD discounts i 0) none es)
-        → StepsDone x d p position count hazards discounts accruals paid left none ds' ps' (done + 1)
-    unfolding rolledBack
-    steps-more ds' es ps' e f q =
-        let s : i ≡ position - suc done = omega arith in
-        record {
-          ready = g .ready;
-          hazards-is = g .hazards-is;
-          discounts-is = g .discounts-is;
-          accruals-is = g .accruals-is;
-          paid-is = g .paid-is;
-          left-is = g .left-is;
-          none-long = g .none-long;
-          none-zero = g .none-zero;
-          most = omega arith;
-          defaults =
-              rw (add-one done)
-              (default-step x (g .ready .limits) i ds paid ds' (g .paid-is) (rw (g .hazards-is, g .discounts-is) at e)
-              ∙ (λ t. rolled x (defaultOf x) (s t) (g .defaults t)));
-          premiums =
-              rw (add-one done)
-              (premium-step x (g .ready .limits) i ps (rowOf x (outstandingOf x)) es none ps' (next-rollable .premiums-long) refl (g .none-zero) (accrued-is es f)
-              (rw (g .hazards-is, g .discounts-is) at q)
-              ∙ (λ t. rolled x (premiumOf x) (s t) (g .premiums t)));
-        }
+    pub hazards-within : (from : ℕ) → from ≡ periodOf starts (i + 1) * x .names → from + x .names ≤ length hazards
+    hazards-within from e =
+        let f : periodOf (x .starts) (i + 1) * x .names + x .names ≤ length (x .hazards) = hazards-there x (g .ready .limits .curves) (i + 1) in
+        rw (e, g .starts-is, g .hazards-is) f
+
+    -- those that it is lent
+    module _ (into : List ℕ) (into-is : into ≡ hazardsAt (x .names) starts hazards (i + 1)) where
+      into-there : into ≡ hazardsInto x (suc i)
+      into-there = into-is ∙ (λ t. hazardsAt (x .names) (g .starts-is t) (g .hazards-is t) (add-one i t))
+
+      pub roll-fits : RowsFit (suc (x .tranches)) (x .names) ds into (getD discounts i 0) paid
+      roll-fits =
+          rw (into-there, g .discounts-is)
+          (defaults-fit x (g .ready .limits) i inside ds paid (next-rollable .defaults-long) (next-rollable .defaults-most) (g .paid-is))
+
+      pub accrued-fits : (es : List ℕ) → es ≡ tab (length ps) (accruedAt (getD accruals i 0) left ps)
+          → RowsFit (suc (x .tranches)) (x .names) es into (getD discounts i 0) none
+      accrued-fits es e =
+          rw (into-there, g .discounts-is)
+          (premiums-fit x (g .ready .limits) i inside ps (rowOf x (outstandingOf x)) es none (next-rollable .premiums-long)
+          (next-rollable .premiums-most) refl (g .none-long) (g .none-zero) (accrued-is es e))
+
+      pub steps-more : (ds' es ps' : List ℕ)
+          → ds' ≡ grid (suc (x .tranches)) (suc (x .names)) (rolledIn (suc (x .names)) into (getD discounts i 0) paid ds)
+          → es ≡ tab (length ps) (accruedAt (getD accruals i 0) left ps)
+          → ps' ≡ grid (suc (x .tranches)) (suc (x .names)) (rolledIn (suc (x .names)) into (getD discounts i 0) none es)
+          → StepsDone x d p position count starts hazards discounts accruals paid left none ds' ps' (done + 1)
+      unfolding rolledBack
+      steps-more ds' es ps' e f q =
+          let s : i ≡ position - suc done = omega arith in
+          record {
+            ready = g .ready;
+            starts-is = g .starts-is;
+            hazards-is = g .hazards-is;
+            discounts-is = g .discounts-is;
+            accruals-is = g .accruals-is;
+            paid-is = g .paid-is;
+            left-is = g .left-is;
+            none-long = g .none-long;
+            none-zero = g .none-zero;
+            most = omega arith;
+            defaults =
+                rw (add-one done)
+                (default-step x (g .ready .limits) i ds paid ds' (g .paid-is) (rw (into-there, g .discounts-is) at e)
+                ∙ (λ t. rolled x (defaultOf x) (s t) (g .defaults t)));
+            premiums =
+                rw (add-one done)
+                (premium-step x (g .ready .limits) i ps (rowOf x (outstandingOf x)) es none ps' (next-rollable .premiums-long) refl (g .none-zero) (accrued-is es f)
+                (rw (into-there, g .discounts-is) at q)
+                ∙ (λ t. rolled x (premiumOf x) (s t) (g .premiums t)));
+          }
 
   pub defaults-end : done ≡ count → ds ≡ rolledBack x (defaultOf x) position count d
   defaults-end e = g .defaults ∙ ap (λ (n : ℕ). rolledBack x (defaultOf x) position n d) e

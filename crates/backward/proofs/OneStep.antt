@@ -15,9 +15,11 @@ use Rattle.tree.specs.Backward.{rollNode, Leg}
 use Rattle.tree.specs.Legs.{defaultCash, premiumCash}
 use Rattle.sheet.specs.Terms.{Terms, sumOf}
 use Rattle.sheet.specs.Limits.{TermsWithin}
+use Rattle.sheet.specs.Periods.{hazardsInto}
 use Rattle.sheet.proofs.Limits.{hazard-most, discount-most}
+use Rattle.sheet.proofs.Periods.{hazards-long}
 use Rattle.tree.specs.Sheet.{hazardOf, discountOf, accrualOf, lossOf, outstandingOf, defaultOf, premiumOf}
-use Rattle.tree.proofs.Sheets.{loss-rises, outstanding-within}
+use Rattle.tree.proofs.Sheets.{hazard-sure, loss-rises, outstanding-within}
 use Rattle.rows.specs.Tables.{tab, entry, grid}
 use Rattle.rows.specs.Rows.{rowLength, nodeIn, rowOf, rolled, rolledBack}
 use Rattle.rows.specs.Kernels.{rolledIn, accruedAt, paymentOf, RowsFit}
@@ -49,18 +51,18 @@ module _ (x : Terms) (l : TermsWithin x) (i : ℕ) where
   kernel : (leg : ℕ → Leg) (row ys cash zs : List ℕ)
       → ((j k : ℕ) → j ≤ x .tranches → k < x .names → nodeIn x ys j (suc k) + nodeIn x cash j k ≡ nodeIn x row j (suc k) + leg j .rounded (suc i) k default)
       → ((j k : ℕ) → j ≤ x .tranches → k ≤ x .names → nodeIn x ys j k ≡ nodeIn x row j k + leg j .rounded (suc i) k survive)
-      → zs ≡ grid (suc (x .tranches)) (suc (x .names)) (rolledIn (suc (x .names)) (x .hazards) (getD (x .discounts) i 0) cash ys)
+      → zs ≡ grid (suc (x .tranches)) (suc (x .names)) (rolledIn (suc (x .names)) (hazardsInto x (suc i)) (getD (x .discounts) i 0) cash ys)
       → zs ≡ rolled x leg i row
   unfolding rolled rowOf rolledIn nodeIn discountOf
   kernel leg row ys cash zs d u e =
       e
       ∙ row-cong x _ _
       (λ j k p q.
-      ap (λ h. rollNode h (getD (x .discounts) i 0) (nodeIn x ys j (suc k) + nodeIn x cash j k) (nodeIn x ys j k)) (hazard-is x (l .curves .hazards) (suc i) k)
+      ap (λ h. rollNode h (getD (x .discounts) i 0) (nodeIn x ys j (suc k) + nodeIn x cash j k) (nodeIn x ys j k)) (hazard-is x (l .curves) (suc i) k)
       ∙ node-same x (suc i) k (getD (x .discounts) i 0) _ _ _ _ (λ h. d j k p h) (u j k p q))
 
   pub default-step : (row pay zs : List ℕ) → pay ≡ rowOf x (paymentOf x)
-      → zs ≡ grid (suc (x .tranches)) (suc (x .names)) (rolledIn (suc (x .names)) (x .hazards) (getD (x .discounts) i 0) pay row)
+      → zs ≡ grid (suc (x .tranches)) (suc (x .names)) (rolledIn (suc (x .names)) (hazardsInto x (suc i)) (getD (x .discounts) i 0) pay row)
       → zs ≡ rolled x (defaultOf x) i row
   unfolding defaultOf defaultCash
   default-step row pay zs e q =
@@ -73,7 +75,7 @@ module _ (x : Terms) (l : TermsWithin x) (i : ℕ) where
 
   pub premium-step : (row out es none zs : List ℕ) → length row ≡ rowLength x → out ≡ rowOf x (outstandingOf x) → ((n : ℕ) → getD none n 0 ≡ 0)
       → es ≡ tab (length row) (accruedAt (getD (x .accruals) i 0) out row)
-      → zs ≡ grid (suc (x .tranches)) (suc (x .names)) (rolledIn (suc (x .names)) (x .hazards) (getD (x .discounts) i 0) none es)
+      → zs ≡ grid (suc (x .tranches)) (suc (x .names)) (rolledIn (suc (x .names)) (hazardsInto x (suc i)) (getD (x .discounts) i 0) none es)
       → zs ≡ rolled x (premiumOf x) i row
   unfolding premiumOf premiumCash accrualOf nodeIn entry
   premium-step row out es none zs long o z e q =
@@ -90,11 +92,8 @@ module _ (x : Terms) (l : TermsWithin x) (i : ℕ) where
 node-below : (x : Terms) → TermsWithin x → (s k v d u most : ℕ) → v ≤ B → (k < x .names → d ≤ most) → u ≤ most → rollNode (hazardOf x s k) v d u ≤ most
 node-below x l s k v d u most w e f = go (decLt k (x .names))
   where
-    sure : hazardOf x s k ≤ B
-    sure = rw (← hazard-is x (l .curves .hazards) s k) (hazard-most x l k)
-
     go : Dec (k < x .names) → rollNode (hazardOf x s k) v d u ≤ most
-    go (yes h) = node-most (hazardOf x s k) v d u most sure w (e h) f
+    go (yes h) = node-most (hazardOf x s k) v d u most (hazard-sure x (hazard-most x l) s k) w (e h) f
     go (no h) =
         let last : rollNode 0 v 0 u ≤ most = node-most 0 v 0 u most (omega arith) w (omega arith) f in
         rw (hazard-last x s k (omega arith), node-last v d 0 u) last
@@ -139,14 +138,14 @@ module _ (x : Terms) (l : TermsWithin x) (i : ℕ) (inside : i < x .steps) where
       (omega (arith, after-is, pays-low j k, low j k p q)))
 
   pub defaults-fit : (row pay : List ℕ) → length row ≡ rowLength x → DefaultsLow x row → pay ≡ rowOf x (paymentOf x)
-      → RowsFit (suc (x .tranches)) (x .names) row (x .hazards) (getD (x .discounts) i 0) pay
+      → RowsFit (suc (x .tranches)) (x .names) row (hazardsInto x (suc i)) (getD (x .discounts) i 0) pay
   unfolding nodeIn
   defaults-fit row pay long low e =
       record {
-        hazards-long = l .curves .hazards;
+        hazards-long = hazards-long x (l .curves) (suc i);
         rows-long = long;
         cash-long = ap length e ∙ length-row x _;
-        hazard-most = hazard-most x l;
+        hazard-most = λ k. rw (hazard-is x (l .curves) (suc i) k) (hazard-sure x (hazard-most x l) (suc i) k);
         discount-most = discount-most x l i;
         survived-most = λ j k p q. omega (arith, low j k (omega arith) q);
         defaulted-most = λ j k p q.
@@ -155,16 +154,16 @@ module _ (x : Terms) (l : TermsWithin x) (i : ℕ) (inside : i < x .steps) where
 
   pub premiums-fit : (row out es none : List ℕ) → length row ≡ rowLength x → PremiumsLow x (suc i) row → out ≡ rowOf x (outstandingOf x)
       → length none ≡ rowLength x → ((n : ℕ) → getD none n 0 ≡ 0) → es ≡ tab (length row) (accruedAt (getD (x .accruals) i 0) out row)
-      → RowsFit (suc (x .tranches)) (x .names) es (x .hazards) (getD (x .discounts) i 0) none
+      → RowsFit (suc (x .tranches)) (x .names) es (hazardsInto x (suc i)) (getD (x .discounts) i 0) none
   unfolding nodeIn entry
   premiums-fit row out es none long low o none-long z e =
       let most : (j k : ℕ) → j ≤ x .tranches → k ≤ x .names → nodeIn x es j k ≤ 18 * B =
       λ j k p q. omega (arith, accrued-node x row out es (getD (x .accruals) i 0) long o e j k p q, pays-low j k, low j k p q, after-is, sum-drop-most i (x .accruals), l .accruals .total) in
       record {
-        hazards-long = l .curves .hazards;
+        hazards-long = hazards-long x (l .curves) (suc i);
         rows-long = accrued-long x row out es _ long e;
         cash-long = none-long;
-        hazard-most = hazard-most x l;
+        hazard-most = λ k. rw (hazard-is x (l .curves) (suc i) k) (hazard-sure x (hazard-most x l) (suc i) k);
         discount-most = discount-most x l i;
         survived-most = λ j k p q. most j k (omega arith) q;
         defaulted-most = λ j k p q. omega (arith, most j (suc k) (omega arith) q, z (j * suc (x .names) + k));

@@ -6,6 +6,7 @@ ghost use Rattle.sheet.specs.Spans.{termsIn};
 ghost use Rattle.tree.specs.Sheet.{defaultOf, premiumOf};
 ghost use Rattle.rows.specs.Rows.{rowLength, rolledBack};
 ghost use Rattle.rows.specs.Rollable.{Rollable};
+use periods::hazards_from;
 use rows::step::accrue;
 use rows::step::roll_all;
 use sheet::ROW_MOST;
@@ -40,6 +41,7 @@ fn walk_with_tables(
 {
     let pool = sheet.pool;
     let attachments = part(sheet.attachments, numbers);
+    let starts = part(sheet.starts, numbers);
     let hazards = part(sheet.hazards, numbers);
     let discounts = part(sheet.discounts, numbers);
     let accruals = part(sheet.accruals, numbers);
@@ -51,23 +53,13 @@ fn walk_with_tables(
         let i = position - done;
         let discount = discounts[i];
         let accrual = accruals[i];
-        roll_all(
-            sheet.pool.names,
-            sheet.pool.tranches,
-            hazards,
-            discount,
-            paid,
-            defaults,
-        );
+        let names = sheet.pool.names;
+        let tranches = sheet.pool.tranches;
+        let a = hazards_from(names, starts, i + 1);
+        let e = a + names;
+        roll_all(names, tranches, &hazards[a..e], discount, paid, defaults);
         accrue(accrual, left, premiums);
-        roll_all(
-            sheet.pool.names,
-            sheet.pool.tranches,
-            hazards,
-            discount,
-            none,
-            premiums,
-        );
+        roll_all(names, tranches, &hazards[a..e], discount, none, premiums);
     }
 }
 

@@ -80,31 +80,31 @@ any-or zero f g = refl
 any-or (suc n) f g = ap (λ (b : Bool). b || (f n || g n)) (any-or n f g) ∙ or-swap (any n f) (any n g) (f n) (g n)
 
 -- What the search finds is that the rows are soiled.
-pub soiled-is : (pool : Pool) (attachments hazards discounts accruals d p : List ℕ) (i most : ℕ) → most ≡ sumOf (drop i accruals) →
+pub soiled-is : (pool : Pool) (attachments starts hazards discounts accruals d p : List ℕ) (i most : ℕ) → most ≡ sumOf (drop i accruals) →
     any (suc (pool .tranches)) (λ j. any (suc (pool .names)) (λ k. overAt (bare pool attachments) most d p j k))
-    ≡ soiled (termsOf pool attachments hazards discounts accruals) i d p
+    ≡ soiled (termsOf pool attachments starts hazards discounts accruals) i d p
 unfolding soiled anyOver nodeIn premiumMost
-soiled-is pool attachments hazards discounts accruals d p i most e =
-    let x : Terms = termsOf pool attachments hazards discounts accruals in
+soiled-is pool attachments starts hazards discounts accruals d p i most e =
+    let x : Terms = termsOf pool attachments starts hazards discounts accruals in
     let r : ℕ = suc (pool .tranches) in
     let w : ℕ = suc (pool .names) in
     (λ t.
     any r (λ j.
-    any w (λ k. ltb (ceiling-bare pool attachments hazards discounts accruals t j k) (entry w d j k) || ltb (e t) (entry w p j k))))
+    any w (λ k. ltb (ceiling-bare pool attachments starts hazards discounts accruals t j k) (entry w d j k) || ltb (e t) (entry w p j k))))
     ∙ any-cong r _ _ (λ j h. any-or w (λ k. ltb (defaultMost x j k) (entry w d j k)) (λ k. ltb (sumOf (drop i accruals)) (entry w p j k)))
     ∙ any-or r (λ j. any w (λ k. ltb (defaultMost x j k) (entry w d j k))) (λ j. any w (λ k. ltb (sumOf (drop i accruals)) (entry w p j k)))
 
 -- The lists that set no ceiling play no part, and the others may be parts of the sheet's numbers.
-module _ (pool : Pool) (attachments hazards discounts accruals a c : List ℕ) (a-is : a ≡ attachments) (c-is : c ≡ accruals) where
+module _ (pool : Pool) (attachments starts hazards discounts accruals a c : List ℕ) (a-is : a ≡ attachments) (c-is : c ≡ accruals) where
   abbrev x : Terms
-  x = termsOf pool attachments hazards discounts accruals
+  x = termsOf pool attachments starts hazards discounts accruals
 
-  soiled-whole : (i : ℕ) (d p : List ℕ) → soiled (termsOf pool attachments [] [] accruals) i d p ≡ soiled x i d p
+  soiled-whole : (i : ℕ) (d p : List ℕ) → soiled (termsOf pool attachments [] [] [] accruals) i d p ≡ soiled x i d p
   unfolding soiled anyOver nodeIn defaultMost widthOf lossOf poolLossOf premiumMost
   soiled-whole i d p = refl
 
-  pub soiled-part : (i : ℕ) (d p : List ℕ) → soiled (termsOf pool a [] [] c) i d p ≡ soiled x i d p
-  soiled-part i d p = (λ t. soiled (termsOf pool (a-is t) [] [] (c-is t)) i d p) ∙ soiled-whole i d p
+  pub soiled-part : (i : ℕ) (d p : List ℕ) → soiled (termsOf pool a [] [] [] c) i d p ≡ soiled x i d p
+  soiled-part i d p = (λ t. soiled (termsOf pool (a-is t) [] [] [] (c-is t)) i d p) ∙ soiled-whole i d p
 
 -- ---- rows that keep to their ceilings can be walked back
 

@@ -92,7 +92,8 @@ fn soiled_with_losses(
     requires { ⌜ (length (now defaults) ≡ rowLength (bare pool (now attachments)))
         × (length (now premiums) ≡ rowLength (bare pool (now attachments))) ⌝ }
     ensures { λ r. ⌜ r
-        ≡ soiled (termsOf pool (now (attachments .entry)) [] [] (now (accruals .entry))) position (now (defaults .entry)) (now (premiums .entry)) ⌝ }
+        ≡ soiled (termsOf pool (now (attachments .entry)) [] [] [] (now (accruals .entry))) position (now (defaults .entry))
+        (now (premiums .entry)) ⌝ }
 {
     tranches::pool_losses(pool.names, pool.recovery, losses);
     let most = accruals_after(accruals, position);

@@ -1,4 +1,4 @@
-// Sheets as they are brought, and the refusals 1 to 8 that look at nothing else.
+// Sheets as they are brought, and the refusals 1 to 8 and 25 that look at nothing else.
 ghost use mathlib.Core.Path.{_≡_};
 ghost use mathlib.Core.List.{[]};
 ghost use Rattle.sheet.specs.Spans.{broughtIn, termsIn};
@@ -29,11 +29,16 @@ fn tranches_refusal(sheet: Sheet, numbers: &[u64]) -> Found
     Found::Fine
 }
 
-// Checks 5 to 7: what the tree rests on.
+// Checks 25 and 5 to 7: what the tree rests on.
 fn tree_refusal(sheet: Sheet, numbers: &[u64]) -> Found
     requires { ⌜ PoolInside (termsIn sheet (now numbers)) × ListsFit (broughtIn sheet (now numbers)) ⌝ }
     ensures { λ r. ⌜ r ≡ first (treeTests (termsIn sheet (now (numbers .entry))) []) ⌝ }
 {
+    let pool = sheet.pool;
+    let starts = part(sheet.starts, numbers);
+    if faults::starts_bad(pool, starts) {
+        return Found::Refused(Refusal::Periods);
+    }
     let hazards = part(sheet.hazards, numbers);
     if lists::any_above(hazards, UNITS) {
         return Found::Refused(Refusal::Hazard);
@@ -42,7 +47,6 @@ fn tree_refusal(sheet: Sheet, numbers: &[u64]) -> Found
     if lists::any_outside(discounts, 1, UNITS) {
         return Found::Refused(Refusal::Discount);
     }
-    let pool = sheet.pool;
     let accruals = part(sheet.accruals, numbers);
     if faults::accruals_bad(pool, accruals) {
         return Found::Refused(Refusal::Accrual);
@@ -50,7 +54,7 @@ fn tree_refusal(sheet: Sheet, numbers: &[u64]) -> Found
     Found::Fine
 }
 
-// Checks 3 to 8, on a pool within its limits and lists of the right lengths.
+// Checks 3 to 8 and 25, on a pool within its limits and lists of the right lengths.
 fn figures_refusal(sheet: Sheet, numbers: &[u64]) -> Found
     requires { ⌜ PoolInside (termsIn sheet (now numbers)) × ListsFit (broughtIn sheet (now numbers)) ⌝ }
     ensures { λ r. ⌜ r ≡ first (figureTests (broughtIn sheet (now (numbers .entry))) []) ⌝ }
@@ -70,7 +74,7 @@ fn figures_refusal(sheet: Sheet, numbers: &[u64]) -> Found
     Found::Fine
 }
 
-// Checks 1 to 8 in order. `lent` tells whether a list lent beside the sheet's own has another length;
+// Checks 1 to 8 in order, 25 before 5. `lent` tells whether a list lent beside the sheet's own has another length;
 // it counts only where the pool is within its limits.
 pub fn sheet_refusal(sheet: Sheet, numbers: &[u64], lent: bool) -> Found
     ensures { λ r. ⌜ r ≡ first (sheetTests (broughtIn sheet (now (numbers .entry))) lent []) ⌝ }

@@ -3,6 +3,7 @@ ghost use mathlib.Core.Path.{_≡_};
 ghost use Rattle.listings.specs.Withdrawals.{KeepsWithdrawn};
 ghost use Rattle.deck.specs.Printing.{room as roomOf, printout, printing, printingOn, registerLeft};
 use entries::NUMBERS;
+use entries::STARTS;
 use sheet::COUNTS_MOST;
 use sheet::ROW_MOST;
 
@@ -37,8 +38,9 @@ pub fn run_on(deck: &[u8], register: &mut [u8], out: &mut [u8]) -> Ran
     if MOST < deck.len() {
         return Ran::Printed(render::put_deck(out, 0, 20, MOST));
     }
-    // the most entries of each list; rows as the largest sheet has them
+    // the most entries of each list, and one period from step 1 on; rows as the largest sheet has them
     let mut numbers = [0u64; NUMBERS];
+    numbers[STARTS] = 1;
     let mut defaults = [0u64; ROW_MOST];
     let mut premiums = [0u64; ROW_MOST];
     let mut row = [0u64; COUNTS_MOST];

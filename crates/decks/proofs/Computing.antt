@@ -5,6 +5,7 @@ use Rattle.cash.specs.Hedges.{netValue, changeOf, jumpOf, withSign as signedOf,
 use Rattle.tree.specs.Backward.{rollNode, over}
 use Rattle.tree.specs.Legs.{defaultCash, premiumCash, mark}
 use Rattle.sheet.specs.Terms.{sumOf}
+use Rattle.sheet.specs.Periods.{begun, periodOf}
 use Rattle.tree.specs.Sheet.{
   hazardOf,
   discountOf,
@@ -23,7 +24,7 @@ use Rattle.tree.specs.Sheet.{
 use Rattle.tree.specs.Forward.{same, outflow, fromBelow, pushed, distribution}
 use Rattle.rows.specs.Tables.{tab, entry, grid, any}
 use Rattle.rows.specs.Rows.{nodeIn, rowOf, rolled, rolledBack, anyOver, soiled, distributionRow}
-use Rattle.refusals.specs.Tests.{poolBad, listsBad, recoveryBad, attachmentsBad, hazardsBad, discountsBad, accrualsBad, couponsBad, first, sheetTests}
+use Rattle.refusals.specs.Tests.{poolBad, periodsBad, listsBad, recoveryBad, attachmentsBad, startsBad, hazardsBad, discountsBad, accrualsBad, couponsBad, first, sheetTests}
 use Rattle.figures.specs.Nodes.{nodeOf, jump}
 use Rattle.admission.specs.LentTests.{rowsBad, rowBad, offWalk, tenTests, walkTests}
 use Rattle.walk.specs.Calls.{openTests, backTests, valueTests, ratioTests, forwardTests, orOutcome, orForwardOutcome, zeros, rolls, openCall, backCall, valueCall, ratioCall, forwardCall}
@@ -58,7 +59,7 @@ hedgesComputed = tt
 
 -- one node of a row
 unfoldable legsComputed : Unit {0}
-unfolding rollNode over defaultCash premiumCash mark hazardOf discountOf accrualOf
+unfolding rollNode over defaultCash premiumCash mark begun periodOf hazardOf discountOf accrualOf
 legsComputed = tt
 
 -- a sheet as a tree, and its rules
@@ -73,7 +74,7 @@ rowsComputed = tt
 
 -- the checks of a sheet
 unfoldable checksComputed : Unit {0}
-unfolding poolBad listsBad recoveryBad attachmentsBad hazardsBad discountsBad accrualsBad couponsBad first sheetTests
+unfolding poolBad periodsBad listsBad recoveryBad attachmentsBad startsBad hazardsBad discountsBad accrualsBad couponsBad first sheetTests
 checksComputed = tt
 
 -- the tests of the calls

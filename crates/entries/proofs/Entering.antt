@@ -20,14 +20,15 @@ use Rattle.entries.specs.Layouts.{poolFigures, draftIn, LayoutLimits, lo
 use Rattle.entries.proofs.Appending.{stored-long, list-long, list-grown, list-behind, list-ahead}
 
 -- a layout with another pool, or other spans
-abbrev layoutOf : Bool → Declared.Pool → Span → Span → Span → Span → Span → Layout
-layoutOf pooled pool attachments hazards discounts accruals coupons =
+abbrev layoutOf : Bool → Declared.Pool → Span → Span → Span → Span → Span → Span → Layout
+layoutOf pooled pool attachments starts hazards discounts accruals coupons =
     record {
       pooled = pooled;
       sheet =
           record {
             pool = pool;
             attachments = attachments;
+            starts = starts;
             hazards = hazards;
             discounts = discounts;
             accruals = accruals;
@@ -36,28 +37,28 @@ layoutOf pooled pool attachments hazards discounts accruals coupons =
     }
 
 abbrev pub withPool : Layout → Declared.Pool → Layout
-withPool l pool = let x = l .sheet in layoutOf true pool (x .attachments) (x .hazards) (x .discounts) (x .accruals) (x .coupons)
+withPool l pool = let x = l .sheet in layoutOf true pool (x .attachments) (x .starts) (x .hazards) (x .discounts) (x .accruals) (x .coupons)
 
 abbrev pub withAttachments : Layout → Span → Layout
-withAttachments l s = let x = l .sheet in layoutOf (l .pooled) (x .pool) s (x .hazards) (x .discounts) (x .accruals) (x .coupons)
+withAttachments l s = let x = l .sheet in layoutOf (l .pooled) (x .pool) s (x .starts) (x .hazards) (x .discounts) (x .accruals) (x .coupons)
 
 abbrev pub withHazards : Layout → Span → Layout
-withHazards l s = let x = l .sheet in layoutOf (l .pooled) (x .pool) (x .attachments) s (x .discounts) (x .accruals) (x .coupons)
+withHazards l s = let x = l .sheet in layoutOf (l .pooled) (x .pool) (x .attachments) (x .starts) s (x .discounts) (x .accruals) (x .coupons)
 
 abbrev pub withSteps : Layout → Span → Span → Layout
-withSteps l s t = let x = l .sheet in layoutOf (l .pooled) (x .pool) (x .attachments) (x .hazards) s t (x .coupons)
+withSteps l s t = let x = l .sheet in layoutOf (l .pooled) (x .pool) (x .attachments) (x .starts) (x .hazards) s t (x .coupons)
 
 abbrev pub withCoupons : Layout → Span → Layout
-withCoupons l s = let x = l .sheet in layoutOf (l .pooled) (x .pool) (x .attachments) (x .hazards) (x .discounts) (x .accruals) s
+withCoupons l s = let x = l .sheet in layoutOf (l .pooled) (x .pool) (x .attachments) (x .starts) (x .hazards) (x .discounts) (x .accruals) s
 
-abbrev draftOf : Bool → Declared.Pool → List ℕ → List ℕ → List ℕ → List ℕ → List ℕ → Draft
-draftOf pooled pool attachments hazards discounts accruals coupons =
-    record { pooled = pooled; brought = brought pool attachments hazards discounts accruals coupons }
+abbrev draftOf : Bool → Declared.Pool → List ℕ → List ℕ → List ℕ → List ℕ → List ℕ → List ℕ → Draft
+draftOf pooled pool attachments starts hazards discounts accruals coupons =
+    record { pooled = pooled; brought = brought pool attachments starts hazards discounts accruals coupons }
 
 -- two drafts of the same figures, list by list
-draft-as : {p : Bool} {pool : Declared.Pool} {a b h i v w d e s t : List ℕ} → a ≡ b → h ≡ i → v ≡ w → d ≡ e → s ≡ t →
-    draftOf p pool a h v d s ≡ draftOf p pool b i w e t
-draft-as {p} {pool} q₁ q₂ q₃ q₄ q₅ = λ j. draftOf p pool (q₁ j) (q₂ j) (q₃ j) (q₄ j) (q₅ j)
+draft-as : {p : Bool} {pool : Declared.Pool} {a b f g h i v w d e s t : List ℕ} → a ≡ b → f ≡ g → h ≡ i → v ≡ w → d ≡ e → s ≡ t →
+    draftOf p pool a f h v d s ≡ draftOf p pool b g i w e t
+draft-as {p} {pool} q₁ q₂ q₃ q₄ q₅ q₆ = λ j. draftOf p pool (q₁ j) (q₂ j) (q₃ j) (q₄ j) (q₅ j) (q₆ j)
 
 module _ (l : Layout) (numbers : List ℕ) (h : LayoutLimits l numbers) where
   attachments-long : length (listIn (l .sheet .attachments) numbers) ≡ l .sheet .attachments .length
@@ -139,6 +140,7 @@ module _ (e : Entry) (l : Layout) (numbers : List ℕ) (h : LayoutLimits l numbe
       let t : Span = x .attachments in (
         omega (arith, attachment-room q, h, stored-long t a numbers),
         draft-as (list-grown t a numbers (omega (arith, attachment-room q, h)))
+            (list-behind (x .starts) t a numbers (omega (arith, attachment-room q, h)))
             (list-behind (x .hazards) t a numbers (omega (arith, attachment-room q, h)))
             (list-behind (x .discounts) t a numbers (omega (arith, attachment-room q, h)))
             (list-behind (x .accruals) t a numbers (omega (arith, attachment-room q, h)))
@@ -152,6 +154,7 @@ module _ (e : Entry) (l : Layout) (numbers : List ℕ) (h : LayoutLimits l numbe
       let t : Span = x .hazards in (
         omega (arith, hazard-room q, h, stored-long t p numbers),
         draft-as (list-ahead (x .attachments) t p numbers (omega (arith, h)))
+            (list-behind (x .starts) t p numbers (omega (arith, hazard-room q, h)))
             (list-grown t p numbers (omega (arith, hazard-room q, h)))
             (list-behind (x .discounts) t p numbers (omega (arith, hazard-room q, h)))
             (list-behind (x .accruals) t p numbers (omega (arith, hazard-room q, h)))
@@ -172,6 +175,7 @@ module _ (e : Entry) (l : Layout) (numbers : List ℕ) (h : LayoutLimits l numbe
         omega (arith, step-room q, h, long, stored-long u d between),
         draft-as
             (list-ahead (x .attachments) u d between (omega (arith, h)) ∙ list-ahead (x .attachments) t v numbers (omega (arith, h)))
+            (list-behind (x .starts) u d between (omega (arith, step-room q, h)) ∙ list-behind (x .starts) t v numbers (omega (arith, step-room q, h)))
             (list-ahead (x .hazards) u d between (omega (arith, h)) ∙ list-ahead (x .hazards) t v numbers (omega (arith, h)))
             (list-ahead (longer t) u d between shut ∙ list-grown t v numbers (omega (arith, step-room q, h)))
             (list-grown u d between (omega (arith, step-room q, h, long))
@@ -187,6 +191,7 @@ module _ (e : Entry) (l : Layout) (numbers : List ℕ) (h : LayoutLimits l numbe
       let t : Span = x .coupons in (
         omega (arith, coupon-room q, h, stored-long t s numbers),
         draft-as (list-ahead (x .attachments) t s numbers (omega (arith, h)))
+            (list-behind (x .starts) t s numbers (omega (arith, coupon-room q, h)))
             (list-ahead (x .hazards) t s numbers (omega (arith, h)))
             (list-ahead (x .discounts) t s numbers (omega (arith, h)))
             (list-ahead (x .accruals) t s numbers (omega (arith, h)))

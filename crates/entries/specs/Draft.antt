@@ -17,8 +17,9 @@ pub record Draft : Type 0 where
 abbrev pub noPool : Declared.Pool
 noPool = record { names = 0; steps = 0; tranches = 0; recovery = 0; number = 0 }
 
+-- No command enters a period: there is the one from step 1 on. (T-06)
 abbrev pub emptyDraft : Draft
-emptyDraft = record { pooled = false; brought = brought noPool [] [] [] [] [] }
+emptyDraft = record { pooled = false; brought = brought noPool [] (1 ∷ []) [] [] [] [] }
 
 -- 20, too many: a second pool; more than 9 attachment points or coupons, 125 hazards, 3,650 steps.
 unfoldable pub hasRoom : Entry → Draft → Bool
@@ -46,28 +47,31 @@ added (Pool n m r recovery number) g =
     let pool : Declared.Pool = record { names = n; steps = m; tranches = r; recovery = recovery; number = number } in
     record {
       pooled = true;
-      brought = brought pool (x .sheet .attachments) (x .sheet .hazards) (x .sheet .discounts) (x .sheet .accruals) (x .coupons);
+      brought = brought pool (x .sheet .attachments) (x .sheet .starts) (x .sheet .hazards) (x .sheet .discounts) (x .sheet .accruals) (x .coupons);
     }
 added (Attachment a) g =
     let x = g .brought in
     record {
       pooled = g .pooled;
       brought =
-          brought (poolOf x) (x .sheet .attachments ++ (a ∷ [])) (x .sheet .hazards) (x .sheet .discounts) (x .sheet .accruals) (x .coupons);
+          brought (poolOf x) (x .sheet .attachments ++ (a ∷ [])) (x .sheet .starts) (x .sheet .hazards) (x .sheet .discounts)
+          (x .sheet .accruals) (x .coupons);
     }
 added (Hazard p) g =
     let x = g .brought in
     record {
       pooled = g .pooled;
       brought =
-          brought (poolOf x) (x .sheet .attachments) (x .sheet .hazards ++ (p ∷ [])) (x .sheet .discounts) (x .sheet .accruals) (x .coupons);
+          brought (poolOf x) (x .sheet .attachments) (x .sheet .starts) (x .sheet .hazards ++ (p ∷ [])) (x .sheet .discounts)
+          (x .sheet .accruals) (x .coupons);
     }
 added (Step v d) g =
     let x = g .brought in
     record {
       pooled = g .pooled;
       brought =
-          brought (poolOf x) (x .sheet .attachments) (x .sheet .hazards) (x .sheet .discounts ++ (v ∷ [])) (x .sheet .accruals ++ (d ∷ []))
+          brought (poolOf x) (x .sheet .attachments) (x .sheet .starts) (x .sheet .hazards) (x .sheet .discounts ++ (v ∷ []))
+          (x .sheet .accruals ++ (d ∷ []))
           (x .coupons);
     }
 added (Coupon s) g =
@@ -75,5 +79,6 @@ added (Coupon s) g =
     record {
       pooled = g .pooled;
       brought =
-          brought (poolOf x) (x .sheet .attachments) (x .sheet .hazards) (x .sheet .discounts) (x .sheet .accruals) (x .coupons ++ (s ∷ []));
+          brought (poolOf x) (x .sheet .attachments) (x .sheet .starts) (x .sheet .hazards) (x .sheet .discounts)
+          (x .sheet .accruals) (x .coupons ++ (s ∷ []));
     }

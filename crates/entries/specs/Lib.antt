@@ -1,2 +1,3 @@
 pub mod Draft
 pub mod Layouts
+pub mod OnePeriod

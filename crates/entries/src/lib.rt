@@ -23,8 +23,11 @@ const ACCRUALS: usize = DISCOUNTS + STEPS_MOST;
 
 const COUPONS: usize = ACCRUALS + STEPS_MOST;
 
+// The start of the one period of a deck.
+pub const STARTS: usize = COUPONS + POINTS_MOST;
+
 // How many numbers are lent.
-pub const NUMBERS: usize = COUPONS + POINTS_MOST;
+pub const NUMBERS: usize = STARTS + 1;
 
 // Whether there was a pool command, and the sheet so far. The starts of its spans stay, and their lengths grow.
 pub struct Layout {
@@ -47,6 +50,10 @@ pub fn empty() -> Layout
                 number: 0,
             },
             attachments: Span { at: 0, length: 0 },
+            starts: Span {
+                at: STARTS,
+                length: 1,
+            },
             hazards: Span {
                 at: HAZARDS,
                 length: 0,

@@ -14,7 +14,7 @@ use Rattle.sheet.specs.Terms.{Terms, termsOf, sumOf}
 use Rattle.rows.specs.Tables.{any}
 use Rattle.sheet.specs.Brought.{Brought}
 use Rattle.lists.specs.Outside.{outside}
-use Rattle.refusals.specs.Tests.{differs, listsBad, attachmentsBad, hazardsBad, discountsBad, accrualsBad, couponsBad}
+use Rattle.refusals.specs.Tests.{differs, periodsBad, listsBad, attachmentsBad, startsBad, hazardsBad, discountsBad, accrualsBad, couponsBad}
 use Rattle.lists.proofs.Loops.{falls}
 
 same-reach : (f : ℕ → Bool) {n m : ℕ} → n ≡ m → any n f ≡ any m f
@@ -37,11 +37,21 @@ module _ (x : Terms) where
       let less : pred (length (x .attachments)) ≡ x .tranches = omega (arith, sub-one (length (x .attachments))) in
       rw (p ∙ same-reach _ less, q ∙ same-reach _ e)
 
+  pub starts-told : {off fall high : Bool} → off ≡ differs (getD (x .starts) 0 0) 1 → fall ≡ any (pred (length (x .starts))) (falls (x .starts)) →
+      high ≡ any (length (x .starts)) (λ i. ltb (x .steps) (getD (x .starts) i 0)) → (off || fall || high) ≡ startsBad x
+  unfolding startsBad
+  starts-told o p q = rw (o, p, q)
+
+  pub periods-told : {off long : Bool} → off ≡ outside 1 16 (length (x .starts)) → long ≡ differs (length (x .hazards)) (length (x .starts) * x .names) →
+      (off || long) ≡ periodsBad x
+  unfolding periodsBad
+  periods-told o p = rw (o, p)
+
   -- a list that is the sheet's own
-  pub hazards-told : {l : List ℕ} {high : Bool} → l ≡ x .hazards → length (x .hazards) ≡ x .names →
+  pub hazards-told : {l : List ℕ} {high : Bool} → l ≡ x .hazards →
       high ≡ any (length l) (λ i. ltb B (getD l i 0)) → high ≡ hazardsBad x
   unfolding hazardsBad
-  hazards-told s e p = p ∙ (λ t. any (length (s t)) (λ i. ltb B (getD (s t) i 0))) ∙ same-reach _ e
+  hazards-told s p = p ∙ (λ t. any (length (s t)) (λ i. ltb B (getD (s t) i 0)))
 
   pub discounts-told : {l : List ℕ} {off : Bool} → l ≡ x .discounts → length (x .discounts) ≡ x .steps →
       off ≡ any (length l) (λ i. outside 1 B (getD l i 0)) → off ≡ discountsBad x
@@ -62,27 +72,34 @@ module _ (x : Brought) where
   coupons-told s e p = p ∙ (λ t. any (length (s t)) (λ i. ltb 10_000_000 (getD (s t) i 0))) ∙ same-reach _ e
 
   pub lists-told : {a b c d e : Bool} → a ≡ differs (length (x .sheet .attachments)) (x .sheet .tranches + 1) →
-      b ≡ differs (length (x .sheet .hazards)) (x .sheet .names) → c ≡ differs (length (x .sheet .discounts)) (x .sheet .steps) →
+      b ≡ periodsBad (x .sheet) → c ≡ differs (length (x .sheet .discounts)) (x .sheet .steps) →
       d ≡ differs (length (x .sheet .accruals)) (x .sheet .steps) → e ≡ differs (length (x .coupons)) (x .sheet .tranches + 1) →
       (a || b || c || d || e) ≡ listsBad x
   unfolding listsBad
   lists-told a b c d e = rw (a, b, c, d, e)
 
 -- What rests on the pool and one list alone.
-module _ (pool : Pool) (attachments hazards discounts accruals l : List ℕ) where
+module _ (pool : Pool) (attachments starts hazards discounts accruals l : List ℕ) where
   abbrev whole : Terms
-  whole = termsOf pool attachments hazards discounts accruals
+  whole = termsOf pool attachments starts hazards discounts accruals
 
-  attachments-whole : attachmentsBad (termsOf pool attachments [] [] []) ≡ attachmentsBad whole
+  attachments-whole : attachmentsBad (termsOf pool attachments [] [] [] []) ≡ attachmentsBad whole
   unfolding attachmentsBad
   attachments-whole = refl
 
-  pub attachments-part : l ≡ attachments → attachmentsBad (termsOf pool l [] [] []) ≡ attachmentsBad whole
-  attachments-part e = ap (λ (y : List ℕ). attachmentsBad (termsOf pool y [] [] [])) e ∙ attachments-whole
+  pub attachments-part : l ≡ attachments → attachmentsBad (termsOf pool l [] [] [] []) ≡ attachmentsBad whole
+  attachments-part e = ap (λ (y : List ℕ). attachmentsBad (termsOf pool y [] [] [] [])) e ∙ attachments-whole
 
-  accruals-whole : accrualsBad (termsOf pool [] [] [] accruals) ≡ accrualsBad whole
+  starts-whole : startsBad (termsOf pool [] starts [] [] []) ≡ startsBad whole
+  unfolding startsBad
+  starts-whole = refl
+
+  pub starts-part : l ≡ starts → startsBad (termsOf pool [] l [] [] []) ≡ startsBad whole
+  starts-part e = ap (λ (y : List ℕ). startsBad (termsOf pool [] y [] [] [])) e ∙ starts-whole
+
+  accruals-whole : accrualsBad (termsOf pool [] [] [] [] accruals) ≡ accrualsBad whole
   unfolding accrualsBad
   accruals-whole = refl
 
-  pub accruals-part : l ≡ accruals → accrualsBad (termsOf pool [] [] [] l) ≡ accrualsBad whole
-  accruals-part e = ap (λ (y : List ℕ). accrualsBad (termsOf pool [] [] [] y)) e ∙ accruals-whole
+  pub accruals-part : l ≡ accruals → accrualsBad (termsOf pool [] [] [] [] l) ≡ accrualsBad whole
+  accruals-part e = ap (λ (y : List ℕ). accrualsBad (termsOf pool [] [] [] [] y)) e ∙ accruals-whole

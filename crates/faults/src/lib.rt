@@ -4,10 +4,11 @@ ghost use mathlib.Core.List.{[]};
 ghost use Prim.Native.Nat.{_+_, _≤_};
 ghost use lib.ListN.{length};
 ghost use Rattle.sheet.specs.Terms.{bare, termsOf};
-ghost use Rattle.sheet.specs.Spans.{listIn, broughtIn};
-ghost use Rattle.refusals.specs.Tests.{differs, poolBad, listsBad, attachmentsBad, accrualsBad};
+ghost use Rattle.sheet.specs.Spans.{listIn, broughtIn, termsIn};
+ghost use Rattle.refusals.specs.Tests.{differs, poolBad, periodsBad, listsBad, attachmentsBad, startsBad, accrualsBad};
 use cash::UNITS;
 use sheet::NAMES_MOST;
+use sheet::PERIODS_MOST;
 use sheet::Pool;
 use sheet::STEPS_MOST;
 use sheet::Sheet;
@@ -48,16 +49,32 @@ fn length_differs(span: Span, numbers: &[u64], due: usize) -> bool
     list.len() != due
 }
 
-// 2: whether one of the sheet's own lists has another length. Few tranches, so that one more fits.
+// 2, of the periods: whether there is none or more than 16, or the hazards are not n for each.
+fn periods_differ(sheet: Sheet, numbers: &[u64]) -> bool
+    requires { ⌜ sheet .pool .names ≤ 125 ⌝ }
+    ensures { λ r. ⌜ r ≡ periodsBad (termsIn sheet (now (numbers .entry))) ⌝ }
+{
+    let starts = part(sheet.starts, numbers);
+    let periods = starts.len();
+    if periods < 1 {
+        return true;
+    }
+    if PERIODS_MOST < periods {
+        return true;
+    }
+    length_differs(sheet.hazards, numbers, periods * sheet.pool.names)
+}
+
+// 2: whether one of the sheet's own lists has another length. Few names and tranches, so that as many hazards and one more point fit.
 pub fn lists_differ(sheet: Sheet, numbers: &[u64]) -> bool
-    requires { ⌜ sheet .pool .tranches ≤ 8 ⌝ }
+    requires { ⌜ (sheet .pool .names ≤ 125) × (sheet .pool .tranches ≤ 8) ⌝ }
     ensures { λ r. ⌜ r ≡ listsBad (broughtIn sheet (now (numbers .entry))) ⌝ }
 {
     let points = sheet.pool.tranches + 1;
     if length_differs(sheet.attachments, numbers, points) {
         return true;
     }
-    if length_differs(sheet.hazards, numbers, sheet.pool.names) {
+    if periods_differ(sheet, numbers) {
         return true;
     }
     if length_differs(sheet.discounts, numbers, sheet.pool.steps) {
@@ -80,10 +97,24 @@ pub fn attachments_bad(pool: Pool, attachments: &[u64]) -> bool
     lists::any_above(attachments, UNITS)
 }
 
+// 25: whether the first period does not start at step 1, or the starts do not rise, or one is beyond the last step.
+pub fn starts_bad(pool: Pool, starts: &[u64]) -> bool
+    requires { ⌜ 1 ≤ length (now starts) ⌝ }
+    ensures { λ r. ⌜ r ≡ startsBad (termsOf pool [] (now (starts .entry)) [] [] []) ⌝ }
+{
+    if starts[0] != 1 {
+        return true;
+    }
+    if lists::any_fall(starts) {
+        return true;
+    }
+    lists::any_above(starts, pool.steps as u64)
+}
+
 // 7: whether an accrual or their sum is above its limit, or the last is 0.
 pub fn accruals_bad(pool: Pool, accruals: &[u64]) -> bool
     requires { ⌜ (1 ≤ pool .steps) × (pool .steps ≤ 3650) × (length (now accruals) ≡ pool .steps) ⌝ }
-    ensures { λ r. ⌜ r ≡ accrualsBad (termsOf pool [] [] [] (now (accruals .entry))) ⌝ }
+    ensures { λ r. ⌜ r ≡ accrualsBad (termsOf pool [] [] [] [] (now (accruals .entry))) ⌝ }
 {
     if lists::any_above(accruals, UNITS) {
         return true;

@@ -1,23 +1,19 @@
 -- A row that is pushed in place from its last count down to the count k.
 use Prim.Native.Nat.{ℕ, zero, suc, _+_, _-_, _*_, _^_, _≤_, _<_}
 use mathlib.Core.Path.{_≡_, refl, ap, ap₂, sym, _∙_}
-use mathlib.Core.Bool.{cond}
 use mathlib.Core.List.{List}
 use native.Mathlib.Nat.{le-refl, mul-zero, mul-le-mul, mul-le-mul-left}
 use native.Mathlib.Numerals.{add-one}
 use native.Mathlib.Omega.{arith}
 use native.Mathlib.Decide.{ℕ-discrete}
-use lib.ListN.{length, getD, set, length-set}
+use lib.ListN.{length, getD, set, length-set, List·getD-eq-default}
 use lib.Seq.{getD-set-same, getD-set-other}
 use lib.Dec.{eqb·zero-suc}
-use borrow.Author.Tests.{lt-ltb, le-ltb}
 use Rattle.cash.specs.Units.{B, half}
 use Rattle.cash.proofs.Rounding.{half-most, half-whole}
-use Rattle.tree.specs.Paths.{Tree}
-use Rattle.tree.specs.Sheet.{treeOf, hazardOf}
 use Rattle.tree.specs.Forward.{same, outflow, fromBelow, pushed}
 use Rattle.rows.proofs.Tables.{is-tab}
-use Rattle.forward.specs.Steps.{hazardSheet, pushedRow}
+use Rattle.forward.specs.Steps.{stepTree, pushedRow}
 
 half-none : half 0 ≡ 0
 half-none = ap half (sym (mul-zero B)) ∙ half-whole 0
@@ -33,26 +29,21 @@ pub product-fits : (x y : ℕ) → x ≤ B → y ≤ B → x * y < 2 ^ 64
 unfolding B
 product-fits x y h l = omega (arith, mul-le-mul h l)
 
-pub moved-none : (t : Tree) (s : ℕ) (q : ℕ → ℕ) (k : ℕ) → t .hazard s k ≡ 0 → outflow t s q k ≡ 0
-unfolding outflow
-moved-none t s q k z = ap (λ p. half (q k * p)) z ∙ ap half (mul-zero (q k)) ∙ half-none
-
 -- what moves from each count of a row
 pub moves : List ℕ → List ℕ → ℕ → ℕ
-moves hazards row = outflow (treeOf (hazardSheet hazards)) 1 (λ k. getD row k 0)
+moves hazards row = outflow (stepTree hazards) 1 (λ k. getD row k 0)
 
-pub moves-is : (hazards row : List ℕ) (k : ℕ) → k < length hazards → moves hazards row k ≡ half (getD row k 0 * getD hazards k 0)
-unfolding moves outflow treeOf hazardOf hazardSheet
-moves-is hazards row k l = ap (λ b. half (getD row k 0 * cond b (getD hazards k 0) 0)) (lt-ltb k (length hazards) l)
+pub moves-is : (hazards row : List ℕ) (k : ℕ) → moves hazards row k ≡ half (getD row k 0 * getD hazards k 0)
+unfolding moves outflow stepTree
+moves-is hazards row k = refl
 
 -- no default comes from the last count
-pub last-none : (hazards : List ℕ) (s : ℕ) → treeOf (hazardSheet hazards) .hazard s (length hazards) ≡ 0
-unfolding treeOf hazardOf hazardSheet
-last-none hazards s = ap (λ b. cond b (getD hazards (length hazards) 0) 0) (le-ltb (length hazards) (length hazards) (le-refl _))
-
 pub moves-last : (hazards row : List ℕ) → moves hazards row (length hazards) ≡ 0
-unfolding moves
-moves-last hazards row = moved-none _ 1 _ _ (last-none hazards 1)
+moves-last hazards row =
+    moves-is hazards row (length hazards)
+    ∙ ap (λ p. half (getD row (length hazards) 0 * p)) (List·getD-eq-default hazards 0 (le-refl (length hazards)))
+    ∙ ap half (mul-zero (getD row (length hazards) 0))
+    ∙ half-none
 
 -- a count after the moves m
 pub settled : List ℕ → (ℕ → ℕ) → ℕ → ℕ

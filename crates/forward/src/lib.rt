@@ -6,7 +6,8 @@ ghost use Rattle.cash.specs.Units.{B};
 ghost use Rattle.tree.specs.Forward.{same};
 ghost use Rattle.rows.specs.Tables.{tab};
 ghost use Rattle.rows.specs.Rows.{distributionRow};
-ghost use Rattle.forward.specs.Steps.{hazardSheet, pushedRow};
+ghost use Rattle.forward.specs.Steps.{hazardSheet, HazardsFit, pushedRow};
+use periods::hazards_from;
 
 // B at the count 0 and 0 elsewhere, whatever the row held.
 fn start(row: &mut [u64])
@@ -41,16 +42,18 @@ fn push(row: &mut [u64], hazards: &[u64])
     }
 }
 
-// The distribution after so many steps, by the hazards of as many names, whatever the row held.
-pub fn distribute(hazards: &[u64], row: &mut [u64], steps: usize)
-    requires { ⌜ length (now row) ≡ length (now hazards) + 1 ⌝ }
-    requires { ⌜ ((k : ℕ) → getD (now hazards) k 0 ≤ B) ⌝ }
-    ensures { λ _. ⌜ now (row .exit) ≡ distributionRow (hazardSheet (now (hazards .entry))) steps ⌝ }
+// The distribution after so many steps, each by the hazards of its period, whatever the row held.
+pub fn distribute(names: usize, starts: &[u64], hazards: &[u64], row: &mut [u64], steps: usize)
+    requires { ⌜ length (now row) ≡ names + 1 ⌝ }
+    requires { ⌜ HazardsFit names (now starts) (now hazards) ⌝ }
+    ensures { λ _. ⌜ now (row .exit) ≡ distributionRow (hazardSheet names (now (starts .entry)) (now (hazards .entry))) steps ⌝ }
 {
     start(row);
     let mut step = 0;
     while step < steps {
-        push(row, hazards);
         step += 1;
+        let a = hazards_from(names, starts, step);
+        let e = a + names;
+        push(row, &hazards[a..e]);
     }
 }

@@ -2,16 +2,18 @@
 use Prim.Native.Nat.{ℕ, zero, suc, _+_, _*_, _-_, _≤_, _<_}
 use mathlib.Core.Path.{_≡_, refl, sym, ap, _∙_, subst}
 use mathlib.Core.Bool.{Bool, true, false}
-use mathlib.Core.List.{List, [], _++_, append-assoc, append-nil}
+use mathlib.Core.List.{List, [], _∷_, _++_, append-assoc, append-nil}
 use native.Mathlib.Omega.{arith}
 use borrow.Author.Tests.{lt-ltb, le-ltb}
-use lib.ListN.{length}
+use lib.ListN.{length, getD, take, drop}
+use lib.Seq.{drop-cons}
 use Rattle.lines.specs.Text.{Wrote}
 use Rattle.lines.proofs.Laws.{wrote-both, wrote-text, wrote-none, wrote-long}
 use Rattle.commands.specs.Commands.{commandAt}
 use Rattle.walk.specs.Answers.{fresh}
 use Rattle.sheet.specs.Spans.{listIn}
-use Rattle.entries.specs.Draft.{emptyDraft}
+use Rattle.sheet.specs.Brought.{brought}
+use Rattle.entries.specs.Draft.{noPool, emptyDraft}
 use Rattle.entries.specs.Layouts.{emptyLayout, LayoutLimits}
 use Rattle.machine.specs.Machine.{Machine, machineOf}
 use Rattle.execution.specs.declared.Progress.{Progress}
@@ -37,20 +39,27 @@ pub record Invariant (all left deck before out : List ℕ) (p : Progress) (m : M
 abbrev pub Finished : (all left before out : List ℕ) → Progress → List ℕ → Type 0
 Finished all left before out p register = Wrote before 0 all out (p .end) × (p .end ≤ length before) × (register ≡ left)
 
--- the machine at the start has no entries
-start-machine : (numbers register ds ps row : List ℕ) →
+-- the one start stands behind the room for entries
+one-start : (numbers : List ℕ) → length numbers ≡ 7444 → getD numbers 7443 0 ≡ 1 → take 1 (drop 7443 numbers) ≡ 1 ∷ []
+one-start numbers long one =
+    let h : 7443 < length numbers = omega arith in
+    ap (take 1) (drop-cons numbers 7443 0 h) ∙ ap (λ (a : ℕ). a ∷ []) one
+
+-- the machine at the start has no entries but that
+start-machine : (numbers register ds ps row : List ℕ) → length numbers ≡ 7444 → getD numbers 7443 0 ≡ 1 →
     machineAt startProgress numbers register ds ps row ≡ machineOf emptyDraft register fresh ds ps row
 unfolding listIn
-start-machine numbers register ds ps row = refl
+start-machine numbers register ds ps row long one =
+    λ t. machineOf (record { pooled = false; brought = brought noPool [] (one-start numbers long one t) [] [] [] [] }) register fresh ds ps row
 
-pub start-limits : {p : Progress} (numbers : List ℕ) → p ≡ startProgress → length numbers ≡ 7443 → LayoutLimits (p .layout) numbers
+pub start-limits : {p : Progress} (numbers : List ℕ) → p ≡ startProgress → length numbers ≡ 7444 → LayoutLimits (p .layout) numbers
 start-limits numbers e long =
     let h : LayoutLimits emptyLayout numbers = omega arith in subst (λ (q : Progress). LayoutLimits (q .layout) numbers) (sym e) h
 
-pub holds-at-start : (deck out numbers register ds ps row : List ℕ) {p : Progress} → p ≡ startProgress →
+pub holds-at-start : (deck out numbers register ds ps row : List ℕ) {p : Progress} → p ≡ startProgress → length numbers ≡ 7444 → getD numbers 7443 0 ≡ 1 →
     Invariant (listingFrom (length deck) deck 0 (machineOf emptyDraft register fresh ds ps row))
     (registerFrom (length deck) deck 0 (machineOf emptyDraft register fresh ds ps row)) deck out out p (machineAt p numbers register ds ps row)
-holds-at-start deck out numbers register ds ps row e =
+holds-at-start deck out numbers register ds ps row e long one =
     let m = machineOf emptyDraft register fresh ds ps row in
     subst (λ (q : Progress). Invariant (listingFrom (length deck) deck 0 m) (registerFrom (length deck) deck 0 m) deck out out q
     (machineAt q numbers register ds ps row)) (sym e)
@@ -59,8 +68,8 @@ holds-at-start deck out numbers register ds ps row e =
       enough = omega arith;
       text = [];
       wrote = wrote-none out 0;
-      rest = ap (listingFrom (length deck) deck 0) (sym (start-machine numbers register ds ps row));
-      kept = ap (registerFrom (length deck) deck 0) (sym (start-machine numbers register ds ps row));
+      rest = ap (listingFrom (length deck) deck 0) (sym (start-machine numbers register ds ps row long one));
+      kept = ap (registerFrom (length deck) deck 0) (sym (start-machine numbers register ds ps row long one));
       room = omega arith;
       within = omega arith;
     })

@@ -21,6 +21,7 @@ use Rattle.figures.specs.declared.Answer.{Answer}
 use Rattle.figures.specs.declared.Answer.the-variants.{Refused, Done, Position, Worth, Ratio}
 use Rattle.walk.specs.Answers.{saidOf}
 use Rattle.walk.specs.CallLists.{State}
+use Rattle.walk.specs.RefusalOrders.{RefusalOrder}
 use Rattle.walk.specs.Accuracy.{EarlyRefusal}
 use Rattle.walk.specs.Power.{Shut, stateAfterEvents}
 use Rattle.walk.specs.OurEngine.{ours}
@@ -31,7 +32,7 @@ use Rattle.machine.specs.Transitions.{transitionOf}
 use Rattle.listings.specs.Effects.{Effect, stop, goOn, withDraft, entryEffect, orderEffect, effectOf}
 use Rattle.listings.specs.RegisterFrom.{registerFrom}
 use Rattle.listings.specs.Listing.{registerAfter}
-use Rattle.listings.specs.Withdrawals.{KeepsWithdrawn, broughtBy, DeckWithdrawals}
+use Rattle.listings.specs.Withdrawals.{KeepsWithdrawn, broughtBy, refusalsOf, DeckWithdrawals}
 
 unchanged : (g : List ℕ) → KeepsWithdrawn g g
 unchanged g = record { size = refl; withdrawn = λ x w. w; byte = λ x w. refl }
@@ -121,16 +122,16 @@ shut m y w = ours-keeps .power start [] .stays y readable
     readable (inr l) = w .not-live (l .byte)
 
 -- a refused forward tells no entry of its row
-untold : (a : Answer) (row : List ℕ) (n k : ℕ) → EarlyRefusal (saidOf a) → EarlyRefusal (countSaid a row n k)
+untold : (order : RefusalOrder) (a : Answer) (row : List ℕ) (n k : ℕ) → EarlyRefusal order (saidOf a) → EarlyRefusal order (countSaid a row n k)
 unfolding countSaid
-untold (Refused f) row n k e = e
-untold Done row n k e = absurd (false≢true (sym (e .refused)))
-untold (Position i) row n k e = e
-untold (Worth d a w) row n k e = e
-untold (Ratio z) row n k e = e
+untold order (Refused f) row n k e = e
+untold order Done row n k e = absurd (false≢true (sym (e .refused)))
+untold order (Position i) row n k e = e
+untold order (Worth d a w) row n k e = e
+untold order (Ratio z) row n k e = e
 
-hidden : (o : Order) (m : Machine) → Withdrawn (m .register) (broughtBy o m) → EarlyRefusal (transitionOf o m .said)
-unfolding broughtBy transitionOf openInRooms backInRooms valueInRooms ratioInRooms forwardInRow distributionInRow
+hidden : (o : Order) (m : Machine) → Withdrawn (m .register) (broughtBy o m) → EarlyRefusal (refusalsOf o m) (transitionOf o m .said)
+unfolding broughtBy refusalsOf transitionOf openInRooms backInRooms valueInRooms ratioInRooms forwardInRow distributionInRow
 hidden (Issue y) m w = shut m y w .issue .0
 hidden (Withdraw y) m w = shut m y w .withdraw .0
 hidden Open m w = let x = m .draft .brought in shut m (x .number) w .opening x (m .walk) (lentRows x (m .rooms)) refl .0
@@ -139,7 +140,7 @@ hidden (Value j k) m w = let x = m .draft .brought in shut m (x .number) w .valu
 hidden (Delta j k) m w = let x = m .draft .brought in shut m (x .number) w .ratio x (m .walk) (lentRows x (m .rooms)) j k refl .0
 hidden (Forward i k) m w =
     let x = m .draft .brought in
-    untold _ _ _ k (shut m (x .number) w .forward x (take (x .sheet .names + 1) (m .row)) i refl .0)
+    untold _ _ _ _ k (shut m (x .number) w .forward x (take (x .sheet .names + 1) (m .row)) i refl .0)
 
 pub deck-withdrawals : DeckWithdrawals
 unfolding registerAfter

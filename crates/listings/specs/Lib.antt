@@ -3,3 +3,4 @@ pub mod ListingFrom
 pub mod RegisterFrom
 pub mod Listing
 pub mod Withdrawals
+pub mod OnePeriod

@@ -3,3 +3,4 @@ pub mod Judged
 pub mod Limits
 pub mod Meanings
 mod Trials
+pub mod OnePeriod

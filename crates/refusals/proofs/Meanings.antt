@@ -1,14 +1,15 @@
--- Each of the tests 1 to 8 is false just where the sheet keeps to its limit.
+-- Each of the tests of a sheet is false just where the sheet keeps to its limit.
 use Prim.Native.Nat.{suc, pred, _+_, _*_}
 use mathlib.Core.Path.{_≡_}
 use mathlib.Core.Bool.{Bool, false, _||_}
 use mathlib.Core.Logic.{_↔_, Iff·trans}
+use native.Mathlib.Omega.{arith}
 use lib.ListN.{length, getD}
 use Rattle.cash.specs.Units.{B}
 use Rattle.sheet.specs.Terms.{Terms, sumOf}
 use Rattle.sheet.specs.Brought.{Brought}
-use Rattle.sheet.specs.Limits.{PoolInside, ListsFit, RecoveryInside, AttachmentsRise, HazardsInside, DiscountsInside, AccrualsInside, CouponsInside}
-use Rattle.refusals.specs.Tests.{poolBad, listsBad, recoveryBad, attachmentsBad, hazardsBad, discountsBad, accrualsBad, couponsBad}
+use Rattle.sheet.specs.Limits.{PoolInside, ListsFit, RecoveryInside, AttachmentsRise, StartsRise, HazardsInside, DiscountsInside, AccrualsInside, CouponsInside}
+use Rattle.refusals.specs.Tests.{poolBad, periodsBad, listsBad, recoveryBad, attachmentsBad, startsBad, hazardsBad, discountsBad, accrualsBad, couponsBad}
 use Rattle.refusals.proofs.Judged.{or-fine, most-fine, rise-fine, outside-fine, differs-fine, some-fine, any-fine}
 
 module _ (x : Terms) where
@@ -28,9 +29,15 @@ module _ (x : Terms) where
       Iff·trans (or-fine (any-fine (x .tranches) (λ j. rise-fine (getD (x .attachments) (suc j) 0) (getD (x .attachments) j 0))) (any-fine (x .tranches + 1) (λ j. most-fine B (getD (x .attachments) j 0))))
       (λ m. record { rise = m .0; most = m .1 }, λ p. (p .rise, p .most))
 
+  pub starts-fine : (startsBad x ≡ false) ↔ StartsRise x
+  unfolding startsBad
+  starts-fine =
+      Iff·trans (or-fine (or-fine (differs-fine (getD (x .starts) 0 0) 1) (any-fine (pred (length (x .starts))) (λ j. rise-fine (getD (x .starts) (suc j) 0) (getD (x .starts) j 0)))) (any-fine (length (x .starts)) (λ j. most-fine (x .steps) (getD (x .starts) j 0))))
+      (λ m. record { first = m .0 .0; rise = λ j h. m .0 .1 j (omega arith); most = m .1 }, λ p. ((p .first, λ j h. p .rise j (omega arith)), p .most))
+
   pub hazards-fine : (hazardsBad x ≡ false) ↔ HazardsInside x
   unfolding hazardsBad
-  hazards-fine = any-fine (x .names) (λ k. most-fine B (getD (x .hazards) k 0))
+  hazards-fine = any-fine (length (x .hazards)) (λ k. most-fine B (getD (x .hazards) k 0))
 
   pub discounts-fine : (discountsBad x ≡ false) ↔ DiscountsInside x
   unfolding discountsBad
@@ -44,17 +51,17 @@ module _ (x : Terms) where
 
 module _ (x : Brought) where
   pub lists-fine : (listsBad x ≡ false) ↔ ListsFit x
-  unfolding listsBad
+  unfolding listsBad periodsBad
   lists-fine =
       Iff·trans
       (or-fine (or-fine (or-fine (or-fine
       (differs-fine (length (x .sheet .attachments)) (x .sheet .tranches + 1))
-      (differs-fine (length (x .sheet .hazards)) (x .sheet .names)))
+      (or-fine (outside-fine 1 16 (length (x .sheet .starts))) (differs-fine (length (x .sheet .hazards)) (length (x .sheet .starts) * x .sheet .names))))
       (differs-fine (length (x .sheet .discounts)) (x .sheet .steps)))
       (differs-fine (length (x .sheet .accruals)) (x .sheet .steps)))
       (differs-fine (length (x .coupons)) (x .sheet .tranches + 1))) (
-        λ m. (m .0 .0 .0 .0, record { hazards = m .0 .0 .0 .1; discounts = m .0 .0 .1; accruals = m .0 .1 }, m .1),
-        λ p. ((((p .0, p .1 .hazards), p .1 .discounts), p .1 .accruals), p .2),
+        λ m. (m .0 .0 .0 .0, record { starts = m .0 .0 .0 .1 .0; hazards = m .0 .0 .0 .1 .1; discounts = m .0 .0 .1; accruals = m .0 .1 }, m .1),
+        λ p. ((((p .0, (p .1 .starts, p .1 .hazards)), p .1 .discounts), p .1 .accruals), p .2),
       )
 
   -- The same with the lists lent beside the sheet's own, where K says that they fit.

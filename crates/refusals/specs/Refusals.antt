@@ -1,8 +1,8 @@
--- Document 01's number of each refusal ('Refusals in order').
+-- Document 01's number of each refusal ('Refusals in order'), and T-06's.
 use Prim.Native.Nat.{ℕ}
 use Rattle.refusals.specs.declared.Refusal.{Refusal}
 use Rattle.refusals.specs.declared.Refusal.the-variants.{Pool, Length, Recovery, Attachments, Hazard, Discount, Accrual, Coupon, Withdrawn}
-use Rattle.refusals.specs.declared.Refusal.the-variants.{Unissued, NoWalk, OverCeiling, OutOfSteps, OffTree, FlatHedge, OffScale}
+use Rattle.refusals.specs.declared.Refusal.the-variants.{Unissued, NoWalk, OverCeiling, OutOfSteps, OffTree, FlatHedge, OffScale, Periods}
 
 abbrev pub refusalNumber : Refusal → ℕ
 refusalNumber Pool = 1
@@ -21,3 +21,4 @@ refusalNumber OutOfSteps = 13
 refusalNumber OffTree = 14
 refusalNumber FlatHedge = 15
 refusalNumber OffScale = 16
+refusalNumber Periods = 25

@@ -10,7 +10,7 @@ use Rattle.rows.specs.Tables.{any}
 use Rattle.lists.specs.Outside.{outside}
 use Rattle.sheet.specs.Brought.{Brought}
 use Rattle.refusals.specs.declared.Refusal.{Refusal}
-use Rattle.refusals.specs.declared.Refusal.the-variants.{Pool, Length, Recovery, Attachments, Hazard, Discount, Accrual, Coupon}
+use Rattle.refusals.specs.declared.Refusal.the-variants.{Pool, Length, Recovery, Attachments, Hazard, Discount, Accrual, Coupon, Periods}
 use Rattle.refusals.specs.declared.Found.{Found}
 use Rattle.refusals.specs.declared.Found.the-variants.{Fine, Refused}
 
@@ -20,9 +20,13 @@ differs a b = not (eqb a b)
 unfoldable pub poolBad : Terms → Bool
 poolBad x = outside 1 125 (x .names) || outside 1 3650 (x .steps) || outside 1 8 (x .tranches)
 
+-- No periods or more than 16, or another number of hazards than n for each of them. (T-06)
+unfoldable pub periodsBad : Terms → Bool
+periodsBad x = outside 1 16 (length (x .starts)) || differs (length (x .hazards)) (length (x .starts) * x .names)
+
 unfoldable pub listsBad : Brought → Bool
 listsBad x =
-    differs (length (x .sheet .attachments)) (x .sheet .tranches + 1) || differs (length (x .sheet .hazards)) (x .sheet .names)
+    differs (length (x .sheet .attachments)) (x .sheet .tranches + 1) || periodsBad (x .sheet)
     || differs (length (x .sheet .discounts)) (x .sheet .steps) || differs (length (x .sheet .accruals)) (x .sheet .steps)
     || differs (length (x .coupons)) (x .sheet .tranches + 1)
 
@@ -34,8 +38,14 @@ attachmentsBad x =
     any (x .tranches) (λ j. leb (getD (x .attachments) (suc j) 0) (getD (x .attachments) j 0))
     || any (x .tranches + 1) (λ j. ltb B (getD (x .attachments) j 0))
 
+-- 25, of T-06: the starts rise from 1 on and stay within the steps.
+unfoldable pub startsBad : Terms → Bool
+startsBad x =
+    differs (getD (x .starts) 0 0) 1 || any (pred (length (x .starts))) (λ j. leb (getD (x .starts) (suc j) 0) (getD (x .starts) j 0))
+    || any (length (x .starts)) (λ j. ltb (x .steps) (getD (x .starts) j 0))
+
 unfoldable pub hazardsBad : Terms → Bool
-hazardsBad x = any (x .names) (λ k. ltb B (getD (x .hazards) k 0))
+hazardsBad x = any (length (x .hazards)) (λ k. ltb B (getD (x .hazards) k 0))
 
 unfoldable pub discountsBad : Terms → Bool
 discountsBad x = any (x .steps) (λ i. outside 1 B (getD (x .discounts) i 0))
@@ -56,16 +66,16 @@ unfoldable pub first : List Test → Found
 first [] = Fine
 first (t ∷ l) = cond (t .0) (Refused (t .1)) (first l)
 
--- Checks 3 and 4, what the tranches rest on; 5 to 7, what the tree rests on; 3 to 8; and then more.
+-- Checks 3 and 4, what the tranches rest on; 25 and 5 to 7, what the tree rests on; all of these and 8; and then more.
 abbrev pub trancheTests : Terms → List Test → List Test
 trancheTests x more = (recoveryBad x, Recovery) ∷ (attachmentsBad x, Attachments) ∷ more
 
 abbrev pub treeTests : Terms → List Test → List Test
-treeTests x more = (hazardsBad x, Hazard) ∷ (discountsBad x, Discount) ∷ (accrualsBad x, Accrual) ∷ more
+treeTests x more = (startsBad x, Periods) ∷ (hazardsBad x, Hazard) ∷ (discountsBad x, Discount) ∷ (accrualsBad x, Accrual) ∷ more
 
 abbrev pub figureTests : Brought → List Test → List Test
 figureTests x more = trancheTests (x .sheet) (treeTests (x .sheet) ((couponsBad x, Coupon) ∷ more))
 
--- Checks 1 to 8, and then more. `lent` tells whether a list lent beside the sheet's own has another length.
+-- Checks 1 to 8, 25 before 5, and then more. `lent` tells whether a list lent beside the sheet's own has another length.
 unfoldable pub sheetTests : Brought → Bool → List Test → List Test
 sheetTests x lent more = (poolBad (x .sheet), Pool) ∷ (listsBad x || lent, Length) ∷ figureTests x more

@@ -2,7 +2,7 @@
 ghost use mathlib.Core.Path.{_≡_};
 ghost use Rattle.refusals.specs.Refusals.{refusalNumber};
 
-// Every refusal of a call, with document 01's number and word.
+// Every refusal of a call, with the number and word of document 01, and of T-06 for the last.
 pub enum Refusal {
     // 1, pool
     Pool,
@@ -36,6 +36,8 @@ pub enum Refusal {
     FlatHedge,
     // 16, off scale
     OffScale,
+    // 25, periods
+    Periods,
 }
 
 // What a list of checks finds: the first refusal, or nothing.
@@ -65,5 +67,6 @@ pub fn refusal_number(refusal: Refusal) -> u8
         Refusal::OffTree => 14,
         Refusal::FlatHedge => 15,
         Refusal::OffScale => 16,
+        Refusal::Periods => 25,
     }
 }

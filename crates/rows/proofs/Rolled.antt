@@ -10,6 +10,9 @@ use borrow.Author.Tests.{lt-ltb, le-ltb}
 use Rattle.tree.specs.Paths.{survive, default}
 use Rattle.tree.specs.Backward.{rollNode, backFrom, back, Leg, legValue}
 use Rattle.sheet.specs.Terms.{Terms}
+use Rattle.sheet.specs.Limits.{CurvesFit}
+use Rattle.sheet.specs.Periods.{periodOf, hazardsInto}
+use Rattle.sheet.proofs.Periods.{hazards-long, hazards-read}
 use Rattle.tree.specs.Sheet.{hazardOf, discountOf, treeOf}
 use Rattle.rows.specs.Tables.{entry}
 use Rattle.rows.specs.Rows.{nodeIn, rowLength, rolled, rolledBack}
@@ -18,7 +21,7 @@ use Rattle.rows.proofs.Nodes.{node-last}
 
 -- ---- hazards
 
-pub hazard-before : (x : Terms) (s k : ℕ) → k < x .names → hazardOf x s k ≡ getD (x .hazards) k 0
+hazard-before : (x : Terms) (s k : ℕ) → k < x .names → hazardOf x s k ≡ getD (x .hazards) (periodOf (x .starts) s * x .names + k) 0
 unfolding hazardOf
 hazard-before x s k h = rw (lt-ltb k (x .names) h)
 
@@ -26,13 +29,13 @@ pub hazard-last : (x : Terms) (s k : ℕ) → x .names ≤ k → hazardOf x s k 
 unfolding hazardOf
 hazard-last x s k h = rw (le-ltb k (x .names) h)
 
--- with a hazard for each name, past the list there is none either
-pub hazard-is : (x : Terms) → length (x .hazards) ≡ x .names → (s k : ℕ) → getD (x .hazards) k 0 ≡ hazardOf x s k
-hazard-is x long s k = go (decLt k (x .names))
+-- with a hazard for each name of a period, past them there is none either
+pub hazard-is : (x : Terms) → CurvesFit x → (s k : ℕ) → getD (hazardsInto x s) k 0 ≡ hazardOf x s k
+hazard-is x c s k = go (decLt k (x .names))
   where
-    go : Dec (k < x .names) → getD (x .hazards) k 0 ≡ hazardOf x s k
-    go (yes h) = sym (hazard-before x s k h)
-    go (no h) = List·getD-eq-default (x .hazards) 0 (omega arith) ∙ sym (hazard-last x s k (omega arith))
+    go : Dec (k < x .names) → getD (hazardsInto x s) k 0 ≡ hazardOf x s k
+    go (yes h) = hazards-read x c s k h ∙ sym (hazard-before x s k h)
+    go (no h) = List·getD-eq-default (hazardsInto x s) 0 (omega (arith, hazards-long x c s)) ∙ sym (hazard-last x s k (omega arith))
 
 -- a node by what follows it: the figure after a default counts below the last count only
 pub node-same : (x : Terms) (s k v d d' u u' : ℕ) → (k < x .names → d ≡ d') → u ≡ u' → rollNode (hazardOf x s k) v d u ≡ rollNode (hazardOf x s k) v d' u'

@@ -1,3 +1,4 @@
 pub mod Parts
 pub mod Limits
+pub mod Periods
 pub mod Placement

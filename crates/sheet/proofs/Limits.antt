@@ -1,6 +1,6 @@
 -- What the limits of a sheet tell of every place of its lists, and of a sheet lent in part.
 use Prim.Native.Nat.{ℕ, _≤_, _<_}
-use mathlib.Core.Path.{_≡_}
+use mathlib.Core.Path.{_≡_, refl}
 use mathlib.Core.List.{List}
 use native.Mathlib.Omega.{arith}
 use native.Mathlib.Decide.{decLt}
@@ -24,7 +24,7 @@ attachment-most x t = all-most (x .attachments) _ B (t .points) (t .attachments 
 
 module _ (x : Terms) (w : TermsWithin x) where
   pub hazard-most : (k : ℕ) → getD (x .hazards) k 0 ≤ B
-  hazard-most = all-most (x .hazards) _ B (w .curves .hazards) (w .hazards)
+  hazard-most = all-most (x .hazards) _ B refl (λ i h. w .hazards i (omega arith))
 
   pub discount-most : (i : ℕ) → getD (x .discounts) i 0 ≤ B
   discount-most = all-most (x .discounts) _ B (w .curves .discounts) (λ i h. w .discounts i h .1)
@@ -33,9 +33,9 @@ module _ (x : Terms) (w : TermsWithin x) where
   accrual-most = all-most (x .accruals) _ B (w .curves .accruals) (w .accruals .most)
 
 -- A sheet's tranches are those of its pool and attachment points alone.
-pub tranches-bare : (pool : Pool) (attachments hazards discounts accruals : List ℕ) →
-    TranchesWithin (termsOf pool attachments hazards discounts accruals) → TranchesWithin (bare pool attachments)
-tranches-bare pool attachments hazards discounts accruals t =
+pub tranches-bare : (pool : Pool) (attachments starts hazards discounts accruals : List ℕ) →
+    TranchesWithin (termsOf pool attachments starts hazards discounts accruals) → TranchesWithin (bare pool attachments)
+tranches-bare pool attachments starts hazards discounts accruals t =
     record {
       pool = record { names = t .pool .names; steps = t .pool .steps; tranches = t .pool .tranches };
       points = t .points;
@@ -49,6 +49,7 @@ limits-terms x m =
     record {
       tranches = record { pool = m .pool; points = m .lists .0; recovery = m .recovery; attachments = m .attachments };
       curves = m .lists .1;
+      starts = m .starts;
       hazards = m .hazards;
       discounts = m .discounts;
       accruals = m .accruals;

@@ -1,4 +1,4 @@
--- What document 01 asks of a sheet, as plain propositions ('Sheet and units' and rows 1 to 8 of the table of refusals).
+-- What document 01 asks of a sheet, as plain propositions ('Sheet and units' and rows 1 to 8 of the table of refusals, and T-06).
 use Prim.Native.Nat.{ℕ, suc, pred, _+_, _*_, _≤_, _<_}
 use mathlib.Core.Path.{_≡_}
 use lib.ListN.{length, getD}
@@ -17,7 +17,8 @@ abbrev pub PointsFit : Terms → Type 0
 PointsFit x = length (x .attachments) ≡ x .tranches + 1
 
 pub record CurvesFit (x : Terms) : Type 0 where
-  pub hazards : length (x .hazards) ≡ x .names
+  pub starts : (1 ≤ length (x .starts)) × (length (x .starts) ≤ 16)
+  pub hazards : length (x .hazards) ≡ length (x .starts) * x .names
   pub discounts : length (x .discounts) ≡ x .steps
   pub accruals : length (x .accruals) ≡ x .steps
 
@@ -33,9 +34,15 @@ pub record AttachmentsRise (x : Terms) : Type 0 where
   pub rise : (j : ℕ) → j < x .tranches → getD (x .attachments) j 0 < getD (x .attachments) (suc j) 0
   pub most : (j : ℕ) → j < x .tranches + 1 → getD (x .attachments) j 0 ≤ B
 
--- 5
+-- 25, before 5: the periods start at step 1, rise and begin within the steps (T-06)
+pub record StartsRise (x : Terms) : Type 0 where
+  pub first : getD (x .starts) 0 0 ≡ 1
+  pub rise : (j : ℕ) → suc j < length (x .starts) → getD (x .starts) j 0 < getD (x .starts) (suc j) 0
+  pub most : (j : ℕ) → j < length (x .starts) → getD (x .starts) j 0 ≤ x .steps
+
+-- 5, of every period
 abbrev pub HazardsInside : Terms → Type 0
-HazardsInside x = (k : ℕ) → k < x .names → getD (x .hazards) k 0 ≤ B
+HazardsInside x = (k : ℕ) → k < length (x .hazards) → getD (x .hazards) k 0 ≤ B
 
 -- 6
 abbrev pub DiscountsInside : Terms → Type 0
@@ -57,6 +64,7 @@ pub record Limits (x : Brought) : Type 0 where
   pub lists : ListsFit x
   pub recovery : RecoveryInside (x .sheet)
   pub attachments : AttachmentsRise (x .sheet)
+  pub starts : StartsRise (x .sheet)
   pub hazards : HazardsInside (x .sheet)
   pub discounts : DiscountsInside (x .sheet)
   pub accruals : AccrualsInside (x .sheet)
@@ -73,6 +81,7 @@ pub record TranchesWithin (x : Terms) : Type 0 where
 pub record TermsWithin (x : Terms) : Type 0 where
   pub tranches : TranchesWithin x
   pub curves : CurvesFit x
+  pub starts : StartsRise x
   pub hazards : HazardsInside x
   pub discounts : DiscountsInside x
   pub accruals : AccrualsInside x

@@ -11,14 +11,15 @@ distinctSheet =
     record {
       pool = record { names = 2; steps = 1; tranches = 3; recovery = 4; number = 5 };
       attachments = record { at = 1; length = 4 };
-      hazards = record { at = 5; length = 2 };
-      discounts = record { at = 7; length = 1 };
-      accruals = record { at = 8; length = 1 };
-      coupons = record { at = 9; length = 4 };
+      starts = record { at = 5; length = 1 };
+      hazards = record { at = 6; length = 2 };
+      discounts = record { at = 8; length = 1 };
+      accruals = record { at = 9; length = 1 };
+      coupons = record { at = 10; length = 4 };
     }
 
 abbrev pub distinctNumbers : List ℕ
-distinctNumbers = 10 ∷ 11 ∷ 12 ∷ 13 ∷ 14 ∷ 15 ∷ 16 ∷ 17 ∷ 18 ∷ 19 ∷ 20 ∷ 21 ∷ 22 ∷ 23 ∷ []
+distinctNumbers = 10 ∷ 11 ∷ 12 ∷ 13 ∷ 14 ∷ 15 ∷ 16 ∷ 17 ∷ 18 ∷ 19 ∷ 20 ∷ 21 ∷ 22 ∷ 23 ∷ 24 ∷ []
 
 -- Each figure and list is brought where it belongs.
 abbrev pub ListsInPlace : Type 0
@@ -32,10 +33,11 @@ ListsInPlace =
             tranches = 3;
             recovery = 4;
             attachments = 11 ∷ 12 ∷ 13 ∷ 14 ∷ [];
-            hazards = 15 ∷ 16 ∷ [];
-            discounts = 17 ∷ [];
-            accruals = 18 ∷ [];
+            starts = 15 ∷ [];
+            hazards = 16 ∷ 17 ∷ [];
+            discounts = 18 ∷ [];
+            accruals = 19 ∷ [];
           };
       number = 5;
-      coupons = 19 ∷ 20 ∷ 21 ∷ 22 ∷ [];
+      coupons = 20 ∷ 21 ∷ 22 ∷ 23 ∷ [];
     }

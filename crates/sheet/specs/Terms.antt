@@ -10,19 +10,21 @@ pub record Terms : Type 0 where
   pub tranches : ℕ
   pub recovery : ℕ
   pub attachments : List ℕ
+  pub starts : List ℕ
   pub hazards : List ℕ
   pub discounts : List ℕ
   pub accruals : List ℕ
 
 -- The sheet that a pool and its lists tell.
-abbrev pub termsOf : Pool → List ℕ → List ℕ → List ℕ → List ℕ → Terms
-termsOf pool attachments hazards discounts accruals =
+abbrev pub termsOf : Pool → List ℕ → List ℕ → List ℕ → List ℕ → List ℕ → Terms
+termsOf pool attachments starts hazards discounts accruals =
     record {
       names = pool .names;
       steps = pool .steps;
       tranches = pool .tranches;
       recovery = pool .recovery;
       attachments = attachments;
+      starts = starts;
       hazards = hazards;
       discounts = discounts;
       accruals = accruals;
@@ -30,7 +32,7 @@ termsOf pool attachments hazards discounts accruals =
 
 -- The sheet of a pool and its attachments: losses and what is outstanding rest on no other list. ('Arithmetic and cash')
 abbrev pub bare : Pool → List ℕ → Terms
-bare pool attachments = termsOf pool attachments [] [] []
+bare pool attachments = termsOf pool attachments [] [] [] []
 
 -- The sum of a list.
 unfoldable pub sumOf : List ℕ → ℕ

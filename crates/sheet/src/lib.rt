@@ -11,6 +11,9 @@ pub const STEPS_MOST: usize = 3650;
 
 pub const TRANCHES_MOST: usize = 8;
 
+// The most periods: stretches of steps, each with its own hazards.
+pub const PERIODS_MOST: usize = 16;
+
 // The most counts of defaults, attachment points or coupons, and entries of a row.
 pub const COUNTS_MOST: usize = 126;
 
@@ -40,6 +43,7 @@ pub struct Span {
 pub struct Sheet {
     pub pool: Pool,
     pub attachments: Span,
+    pub starts: Span,
     pub hazards: Span,
     pub discounts: Span,
     pub accruals: Span,

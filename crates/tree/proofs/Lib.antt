@@ -8,4 +8,5 @@ pub mod Jumps
 pub mod Forward
 pub mod Sheets
 pub mod Statements
+pub mod OnePeriod
 pub mod Acceptance

@@ -40,13 +40,13 @@ hazard-last : (x : Terms) (s : ℕ) → hazardOf x s (x .names) ≡ 0
 unfolding hazardOf
 hazard-last x s = rw (le-ltb (x .names) (x .names) (le-refl _))
 
-hazard-sure : (x : Terms) → TermsWithin x → (s k : ℕ) → hazardOf x s k ≤ B
+pub hazard-sure : (x : Terms) → ((i : ℕ) → getD (x .hazards) i 0 ≤ B) → (s k : ℕ) → hazardOf x s k ≤ B
 unfolding hazardOf
-hazard-sure x w s k = choose-most (ltb k (x .names)) (hazard-most x w k) zero-le
+hazard-sure x most s k = choose-most (ltb k (x .names)) (most _) zero-le
 
 pub fair-of : (x : Terms) → TermsWithin x → Fair (treeOf x)
 unfolding treeOf discountOf
-fair-of x w = record { last = hazard-last x; sure = hazard-sure x w; shrinks = λ s. discount-most x w _ }
+fair-of x w = record { last = hazard-last x; sure = hazard-sure x (hazard-most x w); shrinks = λ s. discount-most x w _ }
 
 -- ---- losses and outstanding nominal, of a tranche or the index
 

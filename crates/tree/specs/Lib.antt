@@ -4,4 +4,5 @@ pub mod Legs
 pub mod Sheet
 pub mod Forward
 pub mod Statements
+pub mod OnePeriod
 pub mod Trials

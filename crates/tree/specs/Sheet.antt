@@ -1,5 +1,5 @@
 -- A sheet by its lists, and what each means on the tree (document 01, 'Sheet and units', 'Arithmetic and cash' and 'Walking back').
-use Prim.Native.Nat.{ℕ, suc, pred, _-_}
+use Prim.Native.Nat.{ℕ, suc, pred, _+_, _-_, _*_}
 use mathlib.Core.Path.{_≡_}
 use mathlib.Core.Bool.{cond}
 use mathlib.Core.List.{[], _∷_}
@@ -7,14 +7,15 @@ use lib.ListN.{getD, drop}
 use lib.Dec.{ltb}
 use Rattle.cash.specs.Units.{B}
 use Rattle.sheet.specs.Terms.{Terms, sumOf}
+use Rattle.sheet.specs.Periods.{periodOf}
 use Rattle.cash.specs.Losses.{poolLoss, poolRecovery, trancheLoss, trancheOutstanding, indexOutstanding}
 use Rattle.tree.specs.Paths.{Tree}
 use Rattle.tree.specs.Backward.{Leg, over, legValue, legExact}
 use Rattle.tree.specs.Legs.{defaultLeg, premiumLeg, mark}
 
--- p: the chance of a default into step s from the count k. None comes from the last count. ('Sheet and units')
+-- p: the chance of a default into step s from the count k, in the period that holds s. None comes from the last count. ('Sheet and units', and T-06)
 unfoldable pub hazardOf : Terms → ℕ → ℕ → ℕ
-hazardOf x s k = cond (ltb k (x .names)) (getD (x .hazards) k 0) 0
+hazardOf x s k = cond (ltb k (x .names)) (getD (x .hazards) (periodOf (x .starts) s * x .names + k) 0) 0
 
 -- v and a of step s stand at s - 1 in their lists. ('Sheet and units')
 unfoldable pub discountOf : Terms → ℕ → ℕ
@@ -99,6 +100,7 @@ spanning x =
       tranches = 1;
       recovery = x .recovery;
       attachments = getD (x .attachments) 0 0 ∷ getD (x .attachments) (x .tranches) 0 ∷ [];
+      starts = x .starts;
       hazards = x .hazards;
       discounts = x .discounts;
       accruals = x .accruals;

@@ -4,7 +4,7 @@ use mathlib.Core.Path.{_≡_}
 use mathlib.Core.List.{[], _∷_}
 use Rattle.cash.specs.Units.{B, half}
 use Rattle.sheet.specs.Terms.{Terms}
-use Rattle.tree.specs.Sheet.{treeOf, poolLossOf, outstandingOf, D, A, exactD, exactA}
+use Rattle.tree.specs.Sheet.{hazardOf, treeOf, poolLossOf, outstandingOf, D, A, exactD, exactA}
 use Rattle.tree.specs.Forward.{distribution, probability}
 use Rattle.tree.specs.Statements.{DefaultsAdd, PremiumsAdd, IndexPremiumsAdd, ErrorsWithin}
 
@@ -17,6 +17,7 @@ wide =
       tranches = 2;
       recovery = 400_000_000;
       attachments = 0 ∷ 30_000_000 ∷ 60_000_000 ∷ [];
+      starts = 1 ∷ [];
       hazards = [];
       discounts = [];
       accruals = [];
@@ -31,6 +32,7 @@ worked =
       tranches = 1;
       recovery = 400_000_000;
       attachments = 0 ∷ 300_000_000 ∷ [];
+      starts = 1 ∷ [];
       hazards = 100_000_000 ∷ 200_000_000 ∷ [];
       discounts = 1_000_000_000 ∷ 900_000_000 ∷ [];
       accruals = 0 ∷ 1_000_000_000 ∷ [];
@@ -45,6 +47,7 @@ unevenPool =
       tranches = 1;
       recovery = 350_000_000;
       attachments = 0 ∷ 300_000_000 ∷ [];
+      starts = 1 ∷ [];
       hazards = 123_456_789 ∷ 234_567_891 ∷ 345_678_912 ∷ [];
       discounts = 987_654_321 ∷ 976_543_210 ∷ [];
       accruals = 250_000_000 ∷ 253_000_000 ∷ [];
@@ -59,6 +62,7 @@ units =
       tranches = 8;
       recovery = 999_999_992;
       attachments = 0 ∷ 1 ∷ 2 ∷ 3 ∷ 4 ∷ 5 ∷ 6 ∷ 7 ∷ 8 ∷ [];
+      starts = 1 ∷ [];
       hazards = 500_000_000 ∷ [];
       discounts = 1_000_000_000 ∷ [];
       accruals = 500_000_000 ∷ [];
@@ -73,6 +77,7 @@ drifting =
       tranches = 1;
       recovery = 400_000_000;
       attachments = 0 ∷ 300_000_000 ∷ [];
+      starts = 1 ∷ [];
       hazards = 300_000_009 ∷ 48 ∷ [];
       discounts = 1_000_000_000 ∷ 1_000_000_000 ∷ 1_000_000_000 ∷ [];
       accruals = 0 ∷ 0 ∷ 1_000_000_000 ∷ [];
@@ -87,6 +92,7 @@ toppedPool recovery middle =
       tranches = 2;
       recovery = recovery;
       attachments = 0 ∷ middle ∷ 1_000_000_000 ∷ [];
+      starts = 1 ∷ [];
       hazards = 1_000_000_000 ∷ 1_000_000_000 ∷ 1_000_000_000 ∷ [];
       discounts = 1_000_000_000 ∷ [];
       accruals = 1_000_000_000 ∷ [];
@@ -101,9 +107,25 @@ slivers =
       tranches = 8;
       recovery = 500_000_000;
       attachments = 0 ∷ 5 ∷ 6 ∷ 8 ∷ 11 ∷ 12 ∷ 13 ∷ 14 ∷ 1_000_000_000 ∷ [];
+      starts = 1 ∷ [];
       hazards = 500_000_000 ∷ [];
       discounts = 1_000_000_000 ∷ [];
       accruals = 500_000_000 ∷ [];
+    }
+
+-- Two names over three steps, of which the last is a period of its own.
+abbrev pub twoPeriods : Terms
+twoPeriods =
+    record {
+      names = 2;
+      steps = 3;
+      tranches = 1;
+      recovery = 0;
+      attachments = 0 ∷ 1_000_000_000 ∷ [];
+      starts = 1 ∷ 3 ∷ [];
+      hazards = 100_000_000 ∷ 200_000_000 ∷ 300_000_000 ∷ 400_000_000 ∷ [];
+      discounts = 1_000_000_000 ∷ 1_000_000_000 ∷ 1_000_000_000 ∷ [];
+      accruals = 0 ∷ 0 ∷ 1_000_000_000 ∷ [];
     }
 
 -- The starred entries. The deck's figures stand at its root; tranche 1 of it is the index.
@@ -185,3 +207,19 @@ pub record Bounds : Type 0 where
   pub premiums-add : PremiumsAdd units 1 0 0
   pub index-premiums-add : IndexPremiumsAdd slivers 1 0 0
   pub errors : ErrorsWithin drifting 3
+
+-- Hazards on both sides of the step at which the second period starts, and what comes of them. From the last count no default comes, though the
+-- second period's entry stands next in the list.
+pub record PeriodsCrossed : Type 0 where
+  pub before-start : hazardOf twoPeriods 2 0 ≡ 100_000_000
+  pub at-start : hazardOf twoPeriods 3 0 ≡ 300_000_000
+  pub second-at-start : hazardOf twoPeriods 3 1 ≡ 400_000_000
+  pub last-count : hazardOf twoPeriods 2 2 ≡ 0
+  pub default-at-2 : D twoPeriods 1 1 2 0 ≡ 150_000_000
+  pub default-at-1 : D twoPeriods 1 2 1 0 ≡ 205_000_000
+  pub default-at-0 : D twoPeriods 1 3 0 0 ≡ 260_500_000
+  pub premium-at-0 : A twoPeriods 1 3 0 0 ≡ 739_500_000
+  pub row-after-2 : distribution (treeOf twoPeriods) 2 1 ≡ 170_000_000
+  pub row-after-3 : distribution (treeOf twoPeriods) 3 1 ≡ 345_000_000
+  pub chance-after-3 : probability (treeOf twoPeriods) 3 1 ≡ 345_000_000 * B * B
+  pub exact-default : exactD twoPeriods 1 3 0 0 ≡ 260_500_000 * B ^ 7

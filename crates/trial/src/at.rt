@@ -1,5 +1,5 @@
 // A trial is what it lends and what it asks, each number at its place.
-pub type Trial = [u64; 48];
+pub type Trial = [u64; 54];
 
 pub const NAMES: usize = 0;
 
@@ -12,105 +12,120 @@ pub const RECOVERY: usize = 3;
 // Lengths; 0 stands for what the pool asks for.
 pub const ATTACHMENTS_LENT: usize = 4;
 
-pub const HAZARDS_LENT: usize = 5;
+// This one is told as it is; of the hazards 0 stands for the names of each start that is lent.
+pub const STARTS_LENT: usize = 5;
 
-pub const DISCOUNTS_LENT: usize = 6;
+pub const HAZARDS_LENT: usize = 6;
 
-pub const ACCRUALS_LENT: usize = 7;
+pub const DISCOUNTS_LENT: usize = 7;
 
-pub const COUPONS_LENT: usize = 8;
+pub const ACCRUALS_LENT: usize = 8;
 
-pub const REGISTER_LENT: usize = 9;
+pub const COUPONS_LENT: usize = 9;
 
-pub const DEFAULTS_LENT: usize = 10;
+pub const REGISTER_LENT: usize = 10;
 
-pub const PREMIUMS_LENT: usize = 11;
+pub const DEFAULTS_LENT: usize = 11;
 
-pub const ROW_LENT: usize = 12;
+pub const PREMIUMS_LENT: usize = 12;
+
+pub const ROW_LENT: usize = 13;
 
 // The first three attachment points.
-pub const LOWEST: usize = 13;
+pub const LOWEST: usize = 14;
 
-pub const MIDDLE: usize = 14;
+pub const MIDDLE: usize = 15;
 
-pub const HIGHEST: usize = 15;
+pub const HIGHEST: usize = 16;
+
+// The first three starts of a period; the next ones stand one apart.
+pub const START: usize = 17;
+
+pub const SECOND_START: usize = 18;
+
+pub const OTHER_STARTS: usize = 19;
 
 // The first and the third figure of a list, and all others. The second accrual is 0.
-pub const HAZARD: usize = 16;
+pub const HAZARD: usize = 20;
 
-pub const THIRD_HAZARD: usize = 17;
+pub const THIRD_HAZARD: usize = 21;
 
-pub const OTHER_HAZARDS: usize = 18;
+pub const OTHER_HAZARDS: usize = 22;
 
-pub const DISCOUNT: usize = 19;
+// The first hazard of the second period, and the one behind it; the next ones stand a thousandth apart, so that no two periods are alike.
+pub const NEXT_HAZARD: usize = 23;
 
-pub const OTHER_DISCOUNTS: usize = 20;
+pub const LATER_HAZARDS: usize = 24;
 
-pub const ACCRUAL: usize = 21;
+pub const DISCOUNT: usize = 25;
 
-pub const THIRD_ACCRUAL: usize = 22;
+pub const OTHER_DISCOUNTS: usize = 26;
 
-pub const OTHER_ACCRUALS: usize = 23;
+pub const ACCRUAL: usize = 27;
 
-pub const COUPON: usize = 24;
+pub const THIRD_ACCRUAL: usize = 28;
 
-pub const THIRD_COUPON: usize = 25;
+pub const OTHER_ACCRUALS: usize = 29;
 
-pub const OTHER_COUPONS: usize = 26;
+pub const COUPON: usize = 30;
+
+pub const THIRD_COUPON: usize = 31;
+
+pub const OTHER_COUPONS: usize = 32;
 
 // The register's byte for the sheet.
-pub const BYTE: usize = 27;
+pub const BYTE: usize = 33;
 
 // 1: the walk and the rows are made up. Otherwise the walk is opened.
-pub const MADE_UP: usize = 28;
+pub const MADE_UP: usize = 34;
 
 // The walk: 1 if it is open, its number, its position.
-pub const OPEN: usize = 29;
+pub const OPEN: usize = 35;
 
-pub const NUMBER: usize = 30;
+pub const NUMBER: usize = 36;
 
-pub const POSITION: usize = 31;
+pub const POSITION: usize = 37;
 
 // What the calls are asked: steps back, a node, steps forward.
-pub const BACK: usize = 32;
+pub const BACK: usize = 38;
 
-pub const TRANCHE: usize = 33;
+pub const TRANCHE: usize = 39;
 
-pub const COUNT: usize = 34;
+pub const COUNT: usize = 40;
 
-pub const FORWARD: usize = 35;
+pub const FORWARD: usize = 41;
 
 // D of tranche 0 at the counts 0 and 1, of tranche 1, of the index at the counts 0 and 1, and of the index at count 3.
-pub const OWN_DEFAULT: usize = 36;
+pub const OWN_DEFAULT: usize = 42;
 
-pub const OWN_NEXT_DEFAULT: usize = 37;
+pub const OWN_NEXT_DEFAULT: usize = 43;
 
-pub const OTHER_DEFAULTS: usize = 38;
+pub const OTHER_DEFAULTS: usize = 44;
 
-pub const INDEX_DEFAULT: usize = 39;
+pub const INDEX_DEFAULT: usize = 45;
 
-pub const INDEX_NEXT_DEFAULT: usize = 40;
+pub const INDEX_NEXT_DEFAULT: usize = 46;
 
-pub const LAST_DEFAULT: usize = 41;
+pub const LAST_DEFAULT: usize = 47;
 
 // A at the same places, and at all that are left.
-pub const OWN_PREMIUM: usize = 42;
+pub const OWN_PREMIUM: usize = 48;
 
-pub const OWN_NEXT_PREMIUM: usize = 43;
+pub const OWN_NEXT_PREMIUM: usize = 49;
 
-pub const OTHER_PREMIUMS: usize = 44;
+pub const OTHER_PREMIUMS: usize = 50;
 
-pub const INDEX_PREMIUM: usize = 45;
+pub const INDEX_PREMIUM: usize = 51;
 
-pub const INDEX_NEXT_PREMIUM: usize = 46;
+pub const INDEX_NEXT_PREMIUM: usize = 52;
 
-pub const LAST_PREMIUM: usize = 47;
+pub const LAST_PREMIUM: usize = 53;
 
 // The number at a place. There is none past the last.
-pub const NOTHING: usize = 48;
+pub const NOTHING: usize = 54;
 
 pub fn read(trial: Trial, place: usize) -> u64 {
-    if place < 48 { trial[place] } else { 0 }
+    if place < 54 { trial[place] } else { 0 }
 }
 
 pub fn size(trial: Trial, place: usize) -> usize {
@@ -120,7 +135,7 @@ pub fn size(trial: Trial, place: usize) -> usize {
 // A number put into its place.
 pub fn with(given: Trial, place: usize, number: u64) -> Trial {
     let mut trial = given;
-    if place < 48 {
+    if place < 54 {
         trial[place] = number;
     }
     trial
@@ -134,6 +149,7 @@ const WALKED: Trial = [
     2, // tranches
     400_000_001, // recovery
     0, // attachments lent
+    1, // starts lent
     0, // hazards lent
     0, // discounts lent
     0, // accruals lent
@@ -145,9 +161,14 @@ const WALKED: Trial = [
     0, // lowest
     300_000_000, // middle
     700_000_000, // highest
+    1, // start
+    2, // second start
+    3, // other starts
     100_000_000, // hazard
     700_000_000, // third hazard
     200_000_000, // other hazards
+    150_000_000, // next hazard
+    50_000_000, // later hazards
     950_000_000, // discount
     990_000_000, // other discounts
     250_000_000, // accrual

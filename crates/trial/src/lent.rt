@@ -15,7 +15,9 @@ pub const ACCRUALS: usize = 3791;
 
 pub const COUPONS: usize = 7443;
 
-pub const NUMBERS: usize = 7459;
+pub const STARTS: usize = 7459;
+
+pub const NUMBERS: usize = 7476;
 
 // Numbers from one place to another, each so much above the one before.
 fn fill(numbers: &mut [u64], from: usize, to: usize, first: u64, apart: u64) {
@@ -39,7 +41,7 @@ fn list(
     third: usize,
     others: usize,
 )
-    requires { ⌜ from ≤ 7459 ⌝ }
+    requires { ⌜ from ≤ 7476 ⌝ }
 {
     fill(numbers, from, to, at::read(trial, others), 0);
     fill(numbers, from, from + 1, at::read(trial, first), 0);
@@ -52,6 +54,36 @@ fn points(numbers: &mut [u64], trial: Trial) {
     fill(numbers, 1, 2, trial[at::MIDDLE], 0);
     fill(numbers, 2, 3, trial[at::HIGHEST], 0);
     fill(numbers, 3, HAZARDS, 700_000_001, 1);
+}
+
+// Three starts, and the next ones one apart.
+fn starts(numbers: &mut [u64], trial: Trial) {
+    fill(numbers, STARTS, STARTS + 1, trial[at::START], 0);
+    fill(numbers, STARTS + 1, STARTS + 2, trial[at::SECOND_START], 0);
+    fill(numbers, STARTS + 2, NUMBERS, trial[at::OTHER_STARTS], 1);
+}
+
+// The hazards of the first period, and behind them those of the others.
+fn hazards(numbers: &mut [u64], trial: Trial) {
+    let next = HAZARDS + at_most(trial[at::NAMES], 126);
+    let later = next + 1;
+    list(
+        numbers,
+        trial,
+        HAZARDS,
+        next,
+        at::HAZARD,
+        at::THIRD_HAZARD,
+        at::OTHER_HAZARDS,
+    );
+    fill(numbers, next, later, trial[at::NEXT_HAZARD], 0);
+    fill(
+        numbers,
+        later,
+        DISCOUNTS,
+        trial[at::LATER_HAZARDS],
+        1_000_000,
+    );
 }
 
 // The first so many numbers of a row, to be written.
@@ -173,6 +205,30 @@ pub fn pool(trial: Trial) -> Pool {
     }
 }
 
+// The starts that a trial tells, and hazards as many as it tells, or else the names of each.
+pub fn starts_span(trial: Trial) -> Span {
+    Span {
+        at: STARTS,
+        length: at::size(trial, at::STARTS_LENT),
+    }
+}
+
+pub fn hazards_span(trial: Trial) -> Span {
+    let told = at::size(trial, at::HAZARDS_LENT);
+    if told == 0 {
+        let names = at_most(trial[at::NAMES], 126);
+        let starts = at_most(trial[at::STARTS_LENT], 17);
+        return Span {
+            at: HAZARDS,
+            length: names * starts,
+        };
+    }
+    Span {
+        at: HAZARDS,
+        length: told,
+    }
+}
+
 // The list that stands at a place.
 pub fn span(trial: Trial, at: usize, told: usize, right: usize, more: u64) -> Span {
     Span {
@@ -184,15 +240,8 @@ pub fn span(trial: Trial, at: usize, told: usize, right: usize, more: u64) -> Sp
 // The numbers of the sheet's lists.
 pub fn lists(numbers: &mut [u64], trial: Trial) {
     points(numbers, trial);
-    list(
-        numbers,
-        trial,
-        HAZARDS,
-        DISCOUNTS,
-        at::HAZARD,
-        at::THIRD_HAZARD,
-        at::OTHER_HAZARDS,
-    );
+    starts(numbers, trial);
+    hazards(numbers, trial);
     list(
         numbers,
         trial,
@@ -216,7 +265,7 @@ pub fn lists(numbers: &mut [u64], trial: Trial) {
         numbers,
         trial,
         COUPONS,
-        NUMBERS,
+        STARTS,
         at::COUPON,
         at::THIRD_COUPON,
         at::OTHER_COUPONS,

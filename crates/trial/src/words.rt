@@ -5,10 +5,11 @@ use crate::print;
 pub fn of(place: usize) {
     cell(
         b"\
-names             steps             tranches          recovery          attachments lent  hazards lent      \
-discounts lent    accruals lent     coupons lent      register lent     defaults lent     premiums lent     \
-row lent          lowest            middle            highest           hazard            third hazard      \
-other hazards     discount          other discounts   accrual           third accrual     other accruals    \
+names             steps             tranches          recovery          attachments lent  starts lent       \
+hazards lent      discounts lent    accruals lent     coupons lent      register lent     defaults lent     \
+premiums lent     row lent          lowest            middle            highest           start             \
+second start      other starts      hazard            third hazard      other hazards     next hazard       \
+later hazards     discount          other discounts   accrual           third accrual     other accruals    \
 coupon            third coupon      other coupons     byte              made up           open              \
 number            position          back              tranche           count             forward           \
 own default       own next default  other defaults    index default     index next defaultlast default      \
@@ -18,7 +19,7 @@ own premium       own next premium  other premiums    index premium     index ne
 }
 
 fn cell(words: &[u8], place: usize) {
-    if 47 < place {
+    if 53 < place {
         return;
     }
     let from = 18 * place;

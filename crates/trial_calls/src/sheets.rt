@@ -36,7 +36,8 @@ pub fn sheet(trial: Trial) {
     let sheet = Sheet {
         pool: lent::pool(trial),
         attachments: lent::span(trial, 0, at::ATTACHMENTS_LENT, at::TRANCHES, 1),
-        hazards: lent::span(trial, lent::HAZARDS, at::HAZARDS_LENT, at::NAMES, 0),
+        starts: lent::starts_span(trial),
+        hazards: lent::hazards_span(trial),
         discounts: lent::span(trial, lent::DISCOUNTS, at::DISCOUNTS_LENT, at::STEPS, 0),
         accruals: lent::span(trial, lent::ACCRUALS, at::ACCRUALS_LENT, at::STEPS, 0),
         coupons: lent::span(trial, lent::COUPONS, at::COUPONS_LENT, at::TRANCHES, 1),

@@ -73,6 +73,26 @@ fn lengths() {
     plain(3, 5, at::ROW_LENT);
 }
 
+// 2, 25 and 5, of the periods. So many steps that 17 starts would be on the tree.
+fn periods() {
+    let two = with(walked(), at::STARTS_LENT, 2);
+    let three = with(walked(), at::STARTS_LENT, 3);
+    let steps = with(with(walked(), at::STEPS, 17), at::BACK, 17);
+    let small = with(
+        with(steps, at::FORWARD, 17),
+        at::OTHER_ACCRUALS,
+        100_000_000,
+    );
+    edge(0, 2, with(walked(), at::HAZARDS_LENT, 3), at::STARTS_LENT);
+    edge(1, 3, with(walked(), at::HAZARDS_LENT, 6), at::STARTS_LENT);
+    edge(16, 17, with(small, at::TRANCHE, 2), at::STARTS_LENT);
+    edge(5, 7, two, at::HAZARDS_LENT);
+    plain(0, 2, at::START);
+    edge(1, 4, two, at::SECOND_START);
+    edge(2, 4, three, at::OTHER_STARTS);
+    edge(B, OVER, with(two, at::SECOND_START, 3), at::NEXT_HAZARD);
+}
+
 // 3 to 6.
 fn figures() {
     let second = with(walked(), at::TRANCHE, 1);
@@ -203,6 +223,7 @@ fn halves() {
 fn main() {
     pool();
     lengths();
+    periods();
     figures();
     premiums();
     bytes();

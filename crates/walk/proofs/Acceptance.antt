@@ -8,7 +8,7 @@ use lib.ListN.{length}
 use lib.IntN.{natAbs}
 use Rattle.register.specs.Rules.{Unissued, Live}
 use Rattle.sheet.specs.Brought.{Brought}
-use Rattle.sheet.specs.Limits.{PoolInside, RecoveryInside, AttachmentsRise, HazardsInside, DiscountsInside, AccrualsInside, CouponsInside}
+use Rattle.sheet.specs.Limits.{PoolInside, RecoveryInside, AttachmentsRise, StartsRise, HazardsInside, DiscountsInside, AccrualsInside, CouponsInside}
 use Rattle.walk.specs.declared.Walk.{Walk}
 use Rattle.rows.specs.Rows.{Rows}
 use Rattle.walk.specs.Answers.{Said, accepted}
@@ -58,22 +58,17 @@ module _ (x : Brought) (g : List ℕ) (w : Walk) (l : Rows) (o : WalkResult) whe
 -- ---- a number that is neither unissued nor live
 
 module _ (g : List ℕ) (y : ℕ) (gone : ¬ (Unissued g y ⊎ Live g y)) (a : Said) where
-  pub issue-early : Judges (issueOrder g y) a → EarlyRefusal a
-  issue-early j =
-      let p = broken-refused ((length g ≡ 256, 2) ∷ []) _ 9 ((¬ (Live g y), 17) ∷ []) a refl refl gone j in
-      record { refused = p .0; early = p .1; silent = p .2 }
+  pub issue-early : Judges (issueOrder g y) a → EarlyRefusal (issueOrder g y) a
+  issue-early j = broken-refused ((length g ≡ 256, 2) ∷ []) _ ((¬ (Live g y), 17) ∷ []) a refl refl gone j
 
-  pub withdraw-early : Judges (withdrawOrder g y) a → EarlyRefusal a
-  withdraw-early j =
-      let p = broken-refused ((length g ≡ 256, 2) ∷ []) _ 9 ((¬ (Unissued g y), 10) ∷ []) a refl refl gone j in
-      record { refused = p .0; early = p .1; silent = p .2 }
+  pub withdraw-early : Judges (withdrawOrder g y) a → EarlyRefusal (withdrawOrder g y) a
+  withdraw-early j = broken-refused ((length g ≡ 256, 2) ∷ []) _ ((¬ (Unissued g y), 10) ∷ []) a refl refl gone j
 
 -- The five calls that bring a sheet.
 pub ten-early : (x : Brought) (g : List ℕ) → ¬ (Unissued g (x .number) ⊎ Live g (x .number)) → (K : Type 0) (m : RefusalOrder) (a : Said)
-    → numbered m ≡ true → Judges (toTen x g K m) a → EarlyRefusal a
+    → numbered m ≡ true → Judges (toTen x g K m) a → EarlyRefusal (toTen x g K m) a
 ten-early x g gone K m a n j =
-    let p = broken-refused
-    ((PoolInside (x .sheet), 1) ∷ (K, 2) ∷ (RecoveryInside (x .sheet), 3) ∷ (AttachmentsRise (x .sheet), 4) ∷ (HazardsInside (x .sheet), 5)
-    ∷ (DiscountsInside (x .sheet), 6) ∷ (AccrualsInside (x .sheet), 7) ∷ (CouponsInside x, 8) ∷ [])
-    _ 9 ((¬ (Unissued g (x .number)), 10) ∷ m) a n refl gone j in
-    record { refused = p .0; early = p .1; silent = p .2 }
+    broken-refused
+    ((PoolInside (x .sheet), 1) ∷ (K, 2) ∷ (RecoveryInside (x .sheet), 3) ∷ (AttachmentsRise (x .sheet), 4) ∷ (StartsRise (x .sheet), 25)
+    ∷ (HazardsInside (x .sheet), 5) ∷ (DiscountsInside (x .sheet), 6) ∷ (AccrualsInside (x .sheet), 7) ∷ (CouponsInside x, 8) ∷ [])
+    _ ((¬ (Unissued g (x .number)), 10) ∷ m) a n refl gone j

@@ -174,7 +174,7 @@ module _ (sheets : ℕ → Brought) (bears : (y : ℕ) → sheets y .number ≡ 
       held : (t : LentRows) (z : ℕ) → Stands (sheets z) k s → z ≡ y → c ≤ s .walk .position → BackSteps (sheets y .sheet) c (s .walk .position) (rowsLent t (s .rows)) (o .rows) →
           (k .own && isOwn t) ≡ true → Holding (sheets z .sheet) (k .walked + c) (s .walk .position - c) (rowsKept t (s .rows) (o .rows))
       held ownRows z q e far w h =
-          back-steps (sheets z .sheet) (q .limits .lists .1 .hazards) c (k .walked) (s .walk .position) (s .rows) (o .rows) far (rw e w) (q .held (both _ _ h .0))
+          back-steps (sheets z .sheet) c (k .walked) (s .walk .position) (s .rows) (o .rows) far (rw e w) (q .held (both _ _ h .0))
       held (otherRows l) z q e far w h = absurd (false≢true (both (k .own) false h .1))
 
       go : (b : Bool) → accepted (o .said) ≡ b →

@@ -1,21 +1,21 @@
 -- Tests that stand for an order of rules, and what it is to be judged by one.
-use Prim.Native.Nat.{ℕ, _≤_}
+use Prim.Native.Nat.{ℕ}
 use mathlib.Core.Path.{_≡_, refl, sym, _∙_, ap}
-use mathlib.Core.Bool.{Bool, true, false, not, _&&_, true≢false, false≢true}
+use mathlib.Core.Bool.{Bool, true, false, not, _&&_, _||_, true≢false, false≢true}
 use mathlib.Core.List.{List, [], _∷_, _++_}
 use mathlib.Core.Logic.{_↔_, _⊎_, inl, inr}
-use native.Mathlib.Nat.{le-of-eq, le-trans}
-use lib.Dec.{eqb, leb}
-use borrow.Author.Tests.{eq-eqb, leb-true, not-true}
+use lib.Dec.{eqb}
+use borrow.Author.Tests.{eq-eqb, not-true}
 use Rattle.register.proofs.Masks.{both}
 use Rattle.refusals.specs.declared.Refusal.{Refusal}
-use Rattle.refusals.specs.declared.Refusal.the-variants.{Pool, Length, Recovery, Attachments, Hazard, Discount, Accrual, Coupon, Withdrawn, Unissued, NoWalk, OverCeiling, OutOfSteps, OffTree, FlatHedge, OffScale}
+use Rattle.refusals.specs.declared.Refusal.the-variants.{Pool, Length, Recovery, Attachments, Hazard, Discount, Accrual, Coupon, Withdrawn, Unissued, NoWalk, OverCeiling, OutOfSteps, OffTree, FlatHedge, OffScale, Periods}
 use Rattle.refusals.specs.declared.Found.the-variants.{Fine, Refused}
 use Rattle.refusals.specs.Refusals.{refusalNumber}
 use Rattle.refusals.specs.Tests.{Test, first}
 use Rattle.refusals.proofs.FirstTest.{first-none, first-met, first-passed, first-fine}
 use Rattle.walk.specs.Answers.{Said, accepted}
-use Rattle.walk.specs.RefusalOrders.{RefusalOrder, Judges}
+use Rattle.walk.specs.RefusalOrders.{RefusalOrder, isEarly, Judges}
+use Rattle.walk.specs.Accuracy.{EarlyRefusal}
 
 -- ---- answers
 
@@ -40,6 +40,7 @@ refusal-some OutOfSteps = refl
 refusal-some OffTree = refl
 refusal-some FlatHedge = refl
 refusal-some OffScale = refl
+refusal-some Periods = refl
 
 pub number-accepted : (a : Said) → a .number ≡ 0 → accepted a ≡ true
 number-accepted a e = eq-eqb (a .number) 0 e
@@ -84,27 +85,45 @@ accepted-holds (t ∷ l) a s (inr p) e = (p .0, accepted-holds l a (tail-some t 
 pub judged-accepted : (m : RefusalOrder) (a : Said) → numbered m ≡ true → Judges m a → (accepted a ≡ true) ↔ Holds m
 judged-accepted m a s j = (accepted-holds m a s j, holds-accepted m a j)
 
--- The numbers of the rules before a broken one are at most its own: the call is refused, by a number that is no greater and no value beside it.
-abbrev pub upTo : ℕ → RefusalOrder → Bool
-upTo n [] = true
-upTo n (t ∷ l) = leb (t .1) n && upTo n l
+-- No rule of an order has the number 9.
+abbrev pub noNine : RefusalOrder → Bool
+noNine [] = true
+noNine (t ∷ l) = not (eqb (t .1) 9) && noNine l
 
-pub broken-refused : (m : RefusalOrder) (K : Type 0) (n : ℕ) (rest : RefusalOrder) (a : Said) → numbered (m ++ ((K, n) ∷ rest)) ≡ true → upTo n m ≡ true → ¬ K
-    → Judges (m ++ ((K, n) ∷ rest)) a → (accepted a ≡ false) × (a .number ≤ n) × (a .values ≡ [])
+-- The rule of an order by which a call is refused is early if it is the first, or early among the later ones and none before it has the number 9.
+early-first : (t : Type 0 × ℕ) (l : RefusalOrder) (a : Said) → a ≡ refusal (t .1) → isEarly (t ∷ l) (a .number) ≡ true
+unfolding isEarly
+early-first t l a e = rw (e, eq-eqb (t .1) (t .1) refl) refl
+
+early-later : (t : Type 0 × ℕ) (l : RefusalOrder) (n : ℕ) → not (eqb (t .1) 9) ≡ true → isEarly l n ≡ true → isEarly (t ∷ l) n ≡ true
+unfolding isEarly
+early-later t l n h e = rw (h, e) (go (eqb (t .1) n))
+  where
+    go : (b : Bool) → (b || true) ≡ true
+    go true = refl
+    go false = refl
+
+-- Where a rule 9 is broken, the call is refused early, and shows no value.
+pub broken-refused : (m : RefusalOrder) (K : Type 0) (rest : RefusalOrder) (a : Said) → numbered (m ++ ((K, 9) ∷ rest)) ≡ true → noNine m ≡ true → ¬ K
+    → Judges (m ++ ((K, 9) ∷ rest)) a → EarlyRefusal (m ++ ((K, 9) ∷ rest)) a
 unfolding Judges
-broken-refused [] K n rest a s u h (inl p) = (
-  ap accepted (p .1) ∙ head-some (K, n) rest s,
-  le-of-eq (ap (λ (b : Said). b .number) (p .1)),
-  ap (λ (b : Said). b .values) (p .1),
-)
-broken-refused [] K n rest a s u h (inr p) = absurd (h (p .0))
-broken-refused (t ∷ m) K n rest a s u h (inl p) = (
-  ap accepted (p .1) ∙ head-some t (m ++ ((K, n) ∷ rest)) s,
-  le-trans (le-of-eq (ap (λ (b : Said). b .number) (p .1))) (leb-true (t .1) n (both (leb (t .1) n) (upTo n m) u .0)),
-  ap (λ (b : Said). b .values) (p .1),
-)
-broken-refused (t ∷ m) K n rest a s u h (inr p) =
-    broken-refused m K n rest a (tail-some t (m ++ ((K, n) ∷ rest)) s) (both (leb (t .1) n) (upTo n m) u .1) h (p .1)
+broken-refused [] K rest a s u h (inl p) =
+    record {
+      refused = ap accepted (p .1) ∙ head-some (K, 9) rest s;
+      early = early-first (K, 9) rest a (p .1);
+      silent = ap (λ (b : Said). b .values) (p .1);
+    }
+broken-refused [] K rest a s u h (inr p) = absurd (h (p .0))
+broken-refused (t ∷ m) K rest a s u h (inl p) =
+    record {
+      refused = ap accepted (p .1) ∙ head-some t (m ++ ((K, 9) ∷ rest)) s;
+      early = early-first t (m ++ ((K, 9) ∷ rest)) a (p .1);
+      silent = ap (λ (b : Said). b .values) (p .1);
+    }
+broken-refused (t ∷ m) K rest a s u h (inr p) =
+    let nine = both (not (eqb (t .1) 9)) (noNine m) u in
+    let r = broken-refused m K rest a (tail-some t (m ++ ((K, 9) ∷ rest)) s) (nine .1) h (p .1) in
+    record { refused = r .refused; early = early-later t (m ++ ((K, 9) ∷ rest)) (a .number) (nine .0) (r .early); silent = r .silent }
 
 -- Two answers to one order: both refused and the same, or both accepted.
 abbrev pub Alike : Said → Said → Type 0

@@ -14,3 +14,4 @@ pub mod FromRules
 pub mod Risk
 pub mod OurEngine
 pub mod Contracts
+pub mod OnePeriod

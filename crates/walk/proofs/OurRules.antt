@@ -229,7 +229,7 @@ module _ (x : Brought) (g : List ℕ) (w : Walk) (l : Rows) where
         record {
           judged = outcome-judged (backTests x g w l c) _ (back-stands x g w l c) w l (backDone x w l c) refl;
           does = outcome-does (backTests x g w l c) _ (back-stands x g w l c) w l (backDone x w l c) refl (AcceptedBack x w l c) (λ h.
-              record { said = refl; walk = refl; rows = rolls-back-steps x (back-holds x g w l c .0 h .0 .lent .lists .1 .hazards) c (w .position) l });
+              record { said = refl; walk = refl; rows = rolls-back-steps x c (w .position) l });
           leaves = outcome-leaves (backTests x g w l c) _ (back-stands x g w l c) w l (backDone x w l c) refl;
         }
 

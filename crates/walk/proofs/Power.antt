@@ -21,7 +21,8 @@ use Rattle.walk.specs.Answers.{accepted}
 use Rattle.walk.specs.CallRules.{RegisterResult, WalkResult, RefusalEffect, ByteWrite}
 use Rattle.walk.specs.Engine.{Engine}
 use Rattle.walk.specs.CallLists.{rowsLent, issue, withdraw, opening, back, value, State, afterWrite, afterOpen, afterWalkCall, callResult, History, noted, noHistory}
-use Rattle.walk.specs.Power.{Operation, call, ratio, forward, operate, Event, returned, cutIn, registerAfterCut, eventLeaves, withdrew, stateAfterEvents, everWithdrew, Shut, Forever, WriteClears, Clears}
+use Rattle.walk.specs.Power.{Operation, call, ratio, forward, operate, Event, returned, cutIn, registerAfterCut, eventLeaves, withdrew, stateAfterEvents, everWithdrew, ShutWrite, ShutWalk, Shut, Forever, WriteClears, Clears}
+use Rattle.walk.specs.RefusalOrders.{RefusalOrder}
 use Rattle.walk.specs.Accuracy.{EarlyRefusal}
 use Rattle.walk.specs.Promise.{Rules}
 use Rattle.walk.proofs.Acceptance.{issue-taken, withdraw-taken, issue-early, withdraw-early, ten-early}
@@ -197,21 +198,21 @@ module _ (e : Engine) (rules : Rules e) where
 
   -- ---- refused for ever
 
-  shut-write : (g : List ℕ) (y v : ℕ) (o : RegisterResult) → EarlyRefusal (o .said) → ByteWrite g y v o → EarlyRefusal (o .said) × (o .register ≡ g)
-  shut-write g y v o a r = (a, r .leaves (a .refused))
+  shut-write : (m : RefusalOrder) (g : List ℕ) (y v : ℕ) (o : RegisterResult) → EarlyRefusal m (o .said) → ByteWrite g y v o → ShutWrite m g o
+  shut-write m g y v o a r = (a, r .leaves (a .refused))
 
-  shut-move : (w : Walk) (m : Rows) (o : WalkResult) → EarlyRefusal (o .said) → RefusalEffect w m o → EarlyRefusal (o .said) × (o .walk ≡ w) × (o .rows ≡ m)
-  shut-move w m o a k = let r = k (a .refused) in (a, r .0, r .1)
+  shut-move : (m : RefusalOrder) (w : Walk) (l : Rows) (o : WalkResult) → EarlyRefusal m (o .said) → RefusalEffect w l o → ShutWalk m w l o
+  shut-move m w l o a k = let r = k (a .refused) in (a, r .0, r .1)
 
   shut : (g : List ℕ) (y : ℕ) → ¬ (Unissued g y ⊎ Live g y) → Shut e g y
   shut g y n =
       record {
-        issue = let r = rules .issue g y in shut-write g y 0xA5 (e .issue g y) (issue-early g y n _ (r .judged)) (r .writes);
-        withdraw = let r = rules .withdraw g y in shut-write g y 0x00 (e .withdraw g y) (withdraw-early g y n _ (r .judged)) (r .writes);
-        opening = λ x w l b. let r = rules .opening x g w l in shut-move w l (e .opening x g w l) (ten-early x g (gone x b) _ _ _ refl (r .judged)) (r .leaves);
-        back = λ x w l c b. let r = rules .back x g w l c in shut-move w l (e .back x g w l c) (ten-early x g (gone x b) _ _ _ refl (r .judged)) (r .leaves);
-        value = λ x w l j k b. let r = rules .value x g w l j k in shut-move w l (e .value x g w l j k) (ten-early x g (gone x b) _ _ _ refl (r .judged)) (r .leaves);
-        ratio = λ x w l j k b. let r = rules .ratio x g w l j k in shut-move w l (e .ratio x g w l j k) (ten-early x g (gone x b) _ _ _ refl (r .judged)) (r .leaves);
+        issue = let r = rules .issue g y in shut-write _ g y 0xA5 (e .issue g y) (issue-early g y n _ (r .judged)) (r .writes);
+        withdraw = let r = rules .withdraw g y in shut-write _ g y 0x00 (e .withdraw g y) (withdraw-early g y n _ (r .judged)) (r .writes);
+        opening = λ x w l b. let r = rules .opening x g w l in shut-move _ w l (e .opening x g w l) (ten-early x g (gone x b) _ _ _ refl (r .judged)) (r .leaves);
+        back = λ x w l c b. let r = rules .back x g w l c in shut-move _ w l (e .back x g w l c) (ten-early x g (gone x b) _ _ _ refl (r .judged)) (r .leaves);
+        value = λ x w l j k b. let r = rules .value x g w l j k in shut-move _ w l (e .value x g w l j k) (ten-early x g (gone x b) _ _ _ refl (r .judged)) (r .leaves);
+        ratio = λ x w l j k b. let r = rules .ratio x g w l j k in shut-move _ w l (e .ratio x g w l j k) (ten-early x g (gone x b) _ _ _ refl (r .judged)) (r .leaves);
         forward = λ x q i b. let r = rules .forward x g q i in let a = ten-early x g (gone x b) _ _ _ refl (r .judged) in (a, r .leaves (a .refused));
       }
     where

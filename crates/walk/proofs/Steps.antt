@@ -44,16 +44,16 @@ A-step : (x : Terms) (j h i k : ℕ) →
 unfolding A legValue back backFrom treeOf premiumOf premiumCash premiumPayment accrualOf
 A-step x j h i k = refl
 
-pub step : (x : Terms) → length (x .hazards) ≡ x .names → (h i : ℕ) (l m : Rows) → BackStep x i l m → Holding x h (suc i) l → Holding x (suc h) i m
-step x long h i l m s q =
+pub step : (x : Terms) (h i : ℕ) (l m : Rows) → BackStep x i l m → Holding x h (suc i) l → Holding x (suc h) i m
+step x h i l m s q =
     record {
       size = s .size;
       default = λ j k p r.
-          s .default j k p r ∙ sym (rule-is x long i k _ _)
+          s .default j k p r ∙ sym (rule-is x i k _ _)
           ∙ node-same x (suc i) k (discountOf x (suc i)) _ _ _ _ (λ b. ap (λ y. y + (lossOf x j (suc k) - lossOf x j k)) (q .default j (suc k) p b)) (q .default j k p r)
           ∙ D-step x j h i k;
       premium = λ j k p r.
-          s .premium j k p r ∙ sym (rule-is x long i k _ _)
+          s .premium j k p r ∙ sym (rule-is x i k _ _)
           ∙ node-same x (suc i) k (discountOf x (suc i)) _ _ _ _
           (λ b. ap (λ y. y + half (getD (x .accruals) i 0 * outstandingOf x j (suc k))) (q .premium j (suc k) p b))
           (ap (λ y. y + half (getD (x .accruals) i 0 * outstandingOf x j k)) (q .premium j k p r))
@@ -62,18 +62,18 @@ step x long h i l m s q =
 
 -- ---- c steps
 
-pub back-steps : (x : Terms) → length (x .hazards) ≡ x .names → (c h i : ℕ) (l m : Rows) → c ≤ i → BackSteps x c i l m → Holding x h i l → Holding x (h + c) (i - c) m
+pub back-steps : (x : Terms) (c h i : ℕ) (l m : Rows) → c ≤ i → BackSteps x c i l m → Holding x h i l → Holding x (h + c) (i - c) m
 unfolding BackSteps
-back-steps x long zero h i l m b w q =
+back-steps x zero h i l m b w q =
     let e : h ≡ h + 0 = omega arith in
     let f : i ≡ i - 0 = omega arith in
     subst₂ (λ a b. Holding x a b m) e f (subst (Holding x h i) w q)
-back-steps x long (suc c) h i l m b (n, s, w) q =
+back-steps x (suc c) h i l m b (n, s, w) q =
     let e : i ≡ suc (i - 1) = omega arith in
     let d : suc h + c ≡ h + suc c = omega arith in
     let f : (i - 1) - c ≡ i - suc c = omega arith in
-    let r : Holding x (suc h) (i - 1) n = step x long h (i - 1) l n s (subst (λ a. Holding x h a l) e q) in
-    subst₂ (λ a b. Holding x a b m) d f (back-steps x long c (suc h) (i - 1) n m (omega arith) w r)
+    let r : Holding x (suc h) (i - 1) n = step x h (i - 1) l n s (subst (λ a. Holding x h a l) e q) in
+    subst₂ (λ a b. Holding x a b m) d f (back-steps x c (suc h) (i - 1) n m (omega arith) w r)
 
 -- ---- from zeros, and under their ceilings
 

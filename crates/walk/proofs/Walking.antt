@@ -1,13 +1,11 @@
 -- The rows of a walk: the calls' rows keep to the backward rule, and it gives no others.
 use Prim.Native.Nat.{ℕ, zero, suc, _+_, _-_, _*_, _≤_}
 use mathlib.Core.Path.{_≡_, refl, sym, _∙_, ap, ap₂, subst}
-use mathlib.Core.Bool.{Bool, true, false, cond}
 use mathlib.Core.List.{List}
-use native.Mathlib.Nat.{add-zero, zero-mul}
+use native.Mathlib.Nat.{add-zero}
 use native.Mathlib.Omega.{arith}
 use lib.ListN.{length, getD}
-use lib.Dec.{ltb}
-use Rattle.cash.specs.Units.{B, half}
+use Rattle.cash.specs.Units.{half}
 use Rattle.cash.specs.Losses.{defaultPayment, premiumPayment}
 use Rattle.tree.specs.Paths.{survive, default}
 use Rattle.tree.specs.Backward.{rollNode, Leg}
@@ -16,7 +14,7 @@ use Rattle.sheet.specs.Terms.{Terms}
 use Rattle.tree.specs.Sheet.{hazardOf, discountOf, accrualOf, lossOf, outstandingOf, defaultOf, premiumOf}
 use Rattle.rows.specs.Rows.{nodeIn, rolled, rolledBack, Rows, rowLength}
 use Rattle.rows.proofs.Tables.{length-row, node-row, is-row}
-use Rattle.rows.proofs.Rolled.{hazard-is, length-rolled, rolled-entry, rolled-join}
+use Rattle.rows.proofs.Rolled.{length-rolled, rolled-entry, rolled-join}
 use Rattle.sheet.specs.Brought.{Brought}
 use Rattle.walk.specs.Calls.{zeros, rolls}
 use Rattle.walk.specs.RefusalOrders.{FullRows}
@@ -34,18 +32,10 @@ rows-same l m p q = λ t. record { defaults = p t; premiums = q t }
 
 -- ---- one step back
 
-pub rule-is : (x : Terms) → length (x .hazards) ≡ x .names → (i k defaulted survived : ℕ)
+pub rule-is : (x : Terms) (i k defaulted survived : ℕ)
     → rollNode (hazardOf x (suc i) k) (discountOf x (suc i)) defaulted survived ≡ backwardRule x i k defaulted survived
 unfolding rollNode discountOf backwardRule
-rule-is x long i k d u =
-    ap₂ (λ a b. half (getD (x .discounts) i 0 * half (a + (B - b) * u))) term (sym (hazard-is x long (suc i) k))
-  where
-    term-at : (b : Bool) (h : ℕ) → cond b h 0 * d ≡ cond b (h * d) 0
-    term-at true h = refl
-    term-at false h = zero-mul d
-
-    term : hazardOf x (suc i) k * d ≡ cond (ltb k (x .names)) (getD (x .hazards) k 0 * d) 0
-    term = unfold hazardOf in term-at (ltb k (x .names)) (getD (x .hazards) k 0)
+rule-is x i k d u = refl
 
 module _ (x : Terms) (j i k : ℕ) where
   pub default-defaulted : defaultOf x j .rounded (suc i) k default ≡ lossOf x j (suc k) - lossOf x j k
@@ -68,16 +58,16 @@ module _ (x : Terms) (j i k : ℕ) where
 unfoldable pub stepRows : Terms → ℕ → Rows → Rows
 stepRows x i l = record { defaults = rolled x (defaultOf x) i (l .defaults); premiums = rolled x (premiumOf x) i (l .premiums) }
 
-pub back-step : (x : Terms) → length (x .hazards) ≡ x .names → (i : ℕ) (l : Rows) → BackStep x i l (stepRows x i l)
+pub back-step : (x : Terms) (i : ℕ) (l : Rows) → BackStep x i l (stepRows x i l)
 unfolding stepRows
-back-step x long i l =
+back-step x i l =
     record {
       size = record { defaults = length-rolled x (defaultOf x) i (l .defaults); premiums = length-rolled x (premiumOf x) i (l .premiums) };
       default = λ j k p q.
-          rolled-entry x (defaultOf x) i (l .defaults) j k p q ∙ rule-is x long i k _ _
+          rolled-entry x (defaultOf x) i (l .defaults) j k p q ∙ rule-is x i k _ _
           ∙ ap₂ (backwardRule x i k) (ap (λ y. nodeIn x (l .defaults) j (suc k) + y) (default-defaulted x j i k)) (ap (λ y. nodeIn x (l .defaults) j k + y) (default-survived x j i k) ∙ add-zero _);
       premium = λ j k p q.
-          rolled-entry x (premiumOf x) i (l .premiums) j k p q ∙ rule-is x long i k _ _
+          rolled-entry x (premiumOf x) i (l .premiums) j k p q ∙ rule-is x i k _ _
           ∙ ap₂ (backwardRule x i k) (ap (λ y. nodeIn x (l .premiums) j (suc k) + y) (premium-defaulted x j i k)) (ap (λ y. nodeIn x (l .premiums) j k + y) (premium-survived x j i k));
     }
 
@@ -111,13 +101,13 @@ rolls-peel x i c l =
       premiums = rolled-peel (x .sheet) (premiumOf (x .sheet)) i c (l .premiums) t;
     }
 
-pub rolls-back-steps : (x : Brought) → length (x .sheet .hazards) ≡ x .sheet .names → (c i : ℕ) (l : Rows) → BackSteps (x .sheet) c i l (rolls x i c l)
+pub rolls-back-steps : (x : Brought) (c i : ℕ) (l : Rows) → BackSteps (x .sheet) c i l (rolls x i c l)
 unfolding BackSteps
-rolls-back-steps x long zero i l = sym (rolls-none x i l)
-rolls-back-steps x long (suc c) i l = (
+rolls-back-steps x zero i l = sym (rolls-none x i l)
+rolls-back-steps x (suc c) i l = (
   stepRows (x .sheet) (i - 1) l,
-  back-step (x .sheet) long (i - 1) l,
-  subst (BackSteps (x .sheet) c (i - 1) (stepRows (x .sheet) (i - 1) l)) (sym (rolls-peel x i c l)) (rolls-back-steps x long c (i - 1) (stepRows (x .sheet) (i - 1) l)),
+  back-step (x .sheet) (i - 1) l,
+  subst (BackSteps (x .sheet) c (i - 1) (stepRows (x .sheet) (i - 1) l)) (sym (rolls-peel x i c l)) (rolls-back-steps x c (i - 1) (stepRows (x .sheet) (i - 1) l)),
 )
 
 pub back-steps-once : (x : Terms) (c i : ℕ) (l m n : Rows) → BackSteps x c i l m → BackSteps x c i l n → m ≡ n

@@ -16,9 +16,10 @@ use Rattle.sheet.specs.Brought.{Brought}
 use Rattle.tree.specs.Sheet.{accrualOf, outstandingOf, D, A, exactD, exactA, dates, WholePool, spanning}
 use Rattle.rows.specs.Rows.{nodeIn, AtEveryNode}
 use Rattle.walk.specs.Answers.{Said, accepted}
+use Rattle.walk.specs.RefusalOrders.{RefusalOrder, isEarly, valueOrder}
 use Rattle.walk.specs.CallRules.{says}
 use Rattle.walk.specs.Engine.{Engine}
-use Rattle.walk.specs.CallLists.{LentRows, ownRows, value, Run, sheetIn, end, history, answers}
+use Rattle.walk.specs.CallLists.{LentRows, ownRows, rowsLent, value, Run, sheetIn, end, history, answers}
 
 -- A list of calls that walked: what it and its answers tell, and no state.
 pub record Walked (e : Engine) (run : Run) (y h : ℕ) : Type 0 where
@@ -100,12 +101,12 @@ pub record WalkAccuracy (e : Engine) (run : Run) (x : Brought) (h : ℕ) : Type 
   -- Of a sheet whose tranches are the whole pool, they add to the index's too, in these rows.
   pub premiums-of-index : WholePool (x .sheet) → IndexAccuracy e run (x .sheet) h
 
--- A refusal by 9, withdrawn, or by what the call checks before it.
-pub record EarlyRefusal (said : Said) : Type 0 where
+-- A refusal by 9, withdrawn, or by what stands before it in the order of the call.
+pub record EarlyRefusal (order : RefusalOrder) (said : Said) : Type 0 where
   -- It is a refusal,
   pub refused : accepted said ≡ false
-  -- by 9 or a lower number,
-  pub early : said .number ≤ 9
+  -- by 9 or the number of a rule before it,
+  pub early : isEarly order (said .number) ≡ true
   -- and shows no value beside its number.
   pub silent : said .values ≡ []
 
@@ -114,4 +115,6 @@ pub record Owed (e : Engine) (run : Run) : Type 0 where
   -- Of the last walk, all that is said above.
   pub found : (y h : ℕ) → Walked e run y h → WalkAccuracy e run (sheetIn run y) h
   -- A number withdrawn in the list shows no value from then on, whatever rows are lent.
-  pub hidden : (y : ℕ) → history e run .gone y ≡ true → (rows : LentRows) (j k : ℕ) → EarlyRefusal (answers e run (value y rows j k))
+  pub hidden : (y : ℕ) → history e run .gone y ≡ true → (rows : LentRows) (j k : ℕ) →
+      EarlyRefusal (valueOrder (sheetIn run y) (end e run .register) (end e run .walk) (rowsLent rows (end e run .rows)) j k)
+      (answers e run (value y rows j k))

@@ -3,17 +3,16 @@
 -- Letters as there: tranche j, count k, position or step i, c steps back. `o` is what the call gives back.
 use Prim.Native.Nat.{ℕ, zero, suc, _+_, _-_, _*_, _^_, _≤_}
 use mathlib.Core.Path.{_≡_}
-use mathlib.Core.Bool.{true, false, cond}
+use mathlib.Core.Bool.{true, false}
 use mathlib.Core.List.{List, [], _∷_}
 use lib.ListN.{length, getD, set}
-use lib.Dec.{ltb}
 use lib.IntN.{ℤ, pos}
 use Rattle.cash.specs.Units.{B, half}
 use Rattle.cash.specs.Sums.{sumTo}
 use Rattle.cash.specs.Hedges.{netValue, ratioOf}
 use Rattle.sheet.specs.Terms.{Terms}
 use Rattle.sheet.specs.Brought.{Brought}
-use Rattle.tree.specs.Sheet.{lossOf, outstandingOf, treeOf}
+use Rattle.tree.specs.Sheet.{hazardOf, lossOf, outstandingOf, treeOf}
 use Rattle.tree.specs.Forward.{distribution, probability, apart}
 use Rattle.rows.specs.Rows.{nodeIn, Rows, AtEveryNode}
 use Rattle.walk.specs.declared.Walk.{Walk}
@@ -45,10 +44,10 @@ says values = record { number = 0; values = values }
 
 -- ---- accepted calls
 
--- half(v(i + 1) × half(p(k) × defaulted + (B - p(k)) × survived)); for k = n only the second term.
+-- half(v(i + 1) × half(p × defaulted + (B - p) × survived)), by the hazard p into step i + 1; it is 0 for k = n, so only the second term counts.
 unfoldable pub backwardRule : Terms → ℕ → ℕ → ℕ → ℕ → ℕ
 backwardRule x i k defaulted survived =
-    half (getD (x .discounts) i 0 * half (cond (ltb k (x .names)) (getD (x .hazards) k 0 * defaulted) 0 + (B - getD (x .hazards) k 0) * survived))
+    half (getD (x .discounts) i 0 * half (hazardOf x (suc i) k * defaulted + (B - hazardOf x (suc i) k) * survived))
 
 -- Rows `new` at position i, from rows `old` at position i + 1.
 pub record BackStep (x : Terms) (i : ℕ) (old new : Rows) : Type 0 where

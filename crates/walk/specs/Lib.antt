@@ -2,6 +2,7 @@ pub mod Answers
 pub mod RefusalOrders
 pub mod Calls
 pub mod CallRules
+pub mod OnePeriod
 pub mod Engine
 pub mod OurEngine
 pub mod CallLists

@@ -16,6 +16,7 @@ use Rattle.walk.specs.CallRules.{RegisterResult, WalkResult}
 use Rattle.walk.specs.Engine.{Engine}
 use Rattle.walk.specs.CallLists.{LentRows, rowsLent, Call, issue, withdraw, opening, back, value, State, CallResult, afterWalkCall}
 use Rattle.walk.specs.CallLists.{callResult, noted, noHistory, Catalogue}
+use Rattle.walk.specs.RefusalOrders.{RefusalOrder, issueOrder, withdrawOrder, openOrder, backOrder, valueOrder, ratioOrder, forwardOrder}
 use Rattle.walk.specs.Accuracy.{EarlyRefusal}
 
 -- Any of the seven calls: one of demand 3's, a hedge ratio, which is lent rows as value is, or forward, which is lent a row of its own.
@@ -68,25 +69,29 @@ everWithdrew e s [] y = false
 everWithdrew e s (event ∷ l) y = withdrew e s event y || everWithdrew e (eventLeaves e s event) l y
 
 -- Refused early, with the register left; or with walk and rows left.
-abbrev pub ShutWrite : List ℕ → RegisterResult → Type 0
-ShutWrite register o = EarlyRefusal (o .said) × (o .register ≡ register)
+abbrev pub ShutWrite : RefusalOrder → List ℕ → RegisterResult → Type 0
+ShutWrite order register o = EarlyRefusal order (o .said) × (o .register ≡ register)
 
-abbrev pub ShutWalk : Walk → Rows → WalkResult → Type 0
-ShutWalk walk rows o = EarlyRefusal (o .said) × (o .walk ≡ walk) × (o .rows ≡ rows)
+abbrev pub ShutWalk : RefusalOrder → Walk → Rows → WalkResult → Type 0
+ShutWalk order walk rows o = EarlyRefusal order (o .said) × (o .walk ≡ walk) × (o .rows ≡ rows)
 
 -- Every call that brings the number y is refused, by 9 or by what it checks before, and leaves register, walk and rows.
 pub record Shut (e : Engine) (register : List ℕ) (y : ℕ) : Type 0 where
   -- It can't be issued again, nor withdrawn.
-  pub issue : ShutWrite register (e .issue register y)
-  pub withdraw : ShutWrite register (e .withdraw register y)
+  pub issue : ShutWrite (issueOrder register y) register (e .issue register y)
+  pub withdraw : ShutWrite (withdrawOrder register y) register (e .withdraw register y)
   -- No sheet under that number is opened, walked or valued, whatever walk and rows the call is given.
-  pub opening : (x : Brought) (walk : Walk) (rows : Rows) → x .number ≡ y → ShutWalk walk rows (e .opening x register walk rows)
-  pub back : (x : Brought) (walk : Walk) (rows : Rows) (c : ℕ) → x .number ≡ y → ShutWalk walk rows (e .back x register walk rows c)
-  pub value : (x : Brought) (walk : Walk) (rows : Rows) (j k : ℕ) → x .number ≡ y → ShutWalk walk rows (e .value x register walk rows j k)
-  pub ratio : (x : Brought) (walk : Walk) (rows : Rows) (j k : ℕ) → x .number ≡ y → ShutWalk walk rows (e .ratio x register walk rows j k)
+  pub opening : (x : Brought) (walk : Walk) (rows : Rows) → x .number ≡ y →
+      ShutWalk (openOrder x register rows) walk rows (e .opening x register walk rows)
+  pub back : (x : Brought) (walk : Walk) (rows : Rows) (c : ℕ) → x .number ≡ y →
+      ShutWalk (backOrder x register walk rows c) walk rows (e .back x register walk rows c)
+  pub value : (x : Brought) (walk : Walk) (rows : Rows) (j k : ℕ) → x .number ≡ y →
+      ShutWalk (valueOrder x register walk rows j k) walk rows (e .value x register walk rows j k)
+  pub ratio : (x : Brought) (walk : Walk) (rows : Rows) (j k : ℕ) → x .number ≡ y →
+      ShutWalk (ratioOrder x register walk rows j k) walk rows (e .ratio x register walk rows j k)
   -- No distribution is told of one either, and the lent row is left.
   pub forward : (x : Brought) (row : List ℕ) (i : ℕ) → x .number ≡ y →
-      EarlyRefusal (e .forward x register row i .said) × (e .forward x register row i .row ≡ row)
+      EarlyRefusal (forwardOrder x register row i) (e .forward x register row i .said) × (e .forward x register row i .row ≡ row)
 
 -- After any list of events, calls of the seven and power failures in them, from any state.
 pub record Forever (e : Engine) (start : State) (l : List Event) : Type 0 where

@@ -1,10 +1,11 @@
 -- The table of refusals in plain words, and that a call gets the first one it meets (document 01, 'Refusals in order').
 use Prim.Native.Nat.{ℕ, _+_, _*_, _≤_, _<_}
 use mathlib.Core.Path.{_≡_}
-use mathlib.Core.Bool.{true}
+use mathlib.Core.Bool.{Bool, true, false, not, _&&_, _||_}
 use mathlib.Core.List.{List, [], _∷_}
 use mathlib.Core.Logic.{_⊎_}
 use lib.ListN.{length}
+use lib.Dec.{eqb}
 use lib.IntN.{natAbs}
 use Rattle.register.specs.Rules.{Unissued, Live}
 use Rattle.sheet.specs.Terms.{Terms}
@@ -12,7 +13,8 @@ use Rattle.tree.specs.Sheet.{defaultMost, premiumMost}
 use Rattle.figures.specs.Nodes.{jump}
 use Rattle.rows.specs.Rows.{rowLength, nodeIn, Rows, AtEveryNode}
 use Rattle.sheet.specs.Brought.{Brought}
-use Rattle.sheet.specs.Limits.{PoolInside, ListsFit, RecoveryInside, AttachmentsRise, HazardsInside, DiscountsInside, AccrualsInside, CouponsInside}
+use Rattle.sheet.specs.Limits.{PoolInside, ListsFit, RecoveryInside, AttachmentsRise, StartsRise}
+use Rattle.sheet.specs.Limits.{HazardsInside, DiscountsInside, AccrualsInside, CouponsInside}
 use Rattle.walk.specs.declared.Walk.{Walk}
 use Rattle.walk.specs.Answers.{Said}
 
@@ -51,10 +53,11 @@ pub record Clean (x : Terms) (i : ℕ) (rows : Rows) : Type 0 where
 abbrev pub RefusalOrder : Type 1
 RefusalOrder = List (Type 0 × ℕ)
 
+-- 25 stands before 5. (T-06)
 abbrev pub toTen : Brought → List ℕ → Type 0 → RefusalOrder → RefusalOrder
 toTen x register lengths more =
-    (PoolInside (x .sheet), 1) ∷ (lengths, 2) ∷ (RecoveryInside (x .sheet), 3) ∷ (AttachmentsRise (x .sheet), 4) ∷ (HazardsInside (x .sheet), 5)
-    ∷ (DiscountsInside (x .sheet), 6) ∷ (AccrualsInside (x .sheet), 7) ∷ (CouponsInside x, 8)
+    (PoolInside (x .sheet), 1) ∷ (lengths, 2) ∷ (RecoveryInside (x .sheet), 3) ∷ (AttachmentsRise (x .sheet), 4) ∷ (StartsRise (x .sheet), 25)
+    ∷ (HazardsInside (x .sheet), 5) ∷ (DiscountsInside (x .sheet), 6) ∷ (AccrualsInside (x .sheet), 7) ∷ (CouponsInside x, 8)
     ∷ (Unissued register (x .number) ⊎ Live register (x .number), 9) ∷ (¬ (Unissued register (x .number)), 10) ∷ more
 
 abbrev pub issueOrder : List ℕ → ℕ → RefusalOrder
@@ -84,6 +87,11 @@ ratioOrder x register walk rows j k =
 
 abbrev pub forwardOrder : Brought → List ℕ → List ℕ → ℕ → RefusalOrder
 forwardOrder x register row i = toTen x register (ForwardFit x register row) ((i ≤ x .sheet .steps, 13) ∷ [])
+
+-- Whether n is 9, withdrawn, or the number of a rule that stands before it in the order.
+unfoldable pub isEarly : RefusalOrder → ℕ → Bool
+isEarly [] n = false
+isEarly (rule ∷ l) n = eqb (rule .1) n || (not (eqb (rule .1) 9) && isEarly l n)
 
 -- The answer has the number of the first rule of the order that is broken; where none is, the call is accepted.
 unfoldable pub Judges : RefusalOrder → Said → Type 0

@@ -253,7 +253,8 @@ pub fn forward(
     if sheet.pool.steps < steps {
         return Answer::Refused(Refusal::OutOfSteps);
     }
+    let starts = sheet::part(sheet.starts, numbers);
     let hazards = sheet::part(sheet.hazards, numbers);
-    forward::distribute(hazards, row, steps);
+    forward::distribute(sheet.pool.names, starts, hazards, row, steps);
     Answer::Done
 }

@@ -6,11 +6,12 @@ use Rattle.tree.specs.Paths.{allMoves, keeps, those, paths, weight, paid, total
 use Rattle.tree.specs.Backward.{rollNode, over, legExact}
 use Rattle.tree.specs.Legs.{defaultCash, premiumCash, premiumExact, mark}
 use Rattle.sheet.specs.Terms.{sumOf}
+use Rattle.sheet.specs.Periods.{begun, periodOf, hazardsAt}
 use Rattle.tree.specs.Sheet.{hazardOf, discountOf, accrualOf, poolLossOf, poolRecoveryOf, lossOf, widthOf, outstandingOf, treeOf, defaultOf, premiumOf, exactD, exactA, dates, defaultMost, premiumMost}
 use Rattle.tree.specs.Forward.{same, outflow, fromBelow, pushed, distribution}
 use Rattle.rows.specs.Tables.{tab, entry, grid, any}
 use Rattle.rows.specs.Rows.{nodeIn, rowOf, rolled, rolledBack, anyOver, soiled, distributionRow}
-use Rattle.refusals.specs.Tests.{poolBad, listsBad, recoveryBad, attachmentsBad, hazardsBad, discountsBad, accrualsBad, couponsBad, first, sheetTests}
+use Rattle.refusals.specs.Tests.{poolBad, periodsBad, listsBad, recoveryBad, attachmentsBad, startsBad, hazardsBad, discountsBad, accrualsBad, couponsBad, first, sheetTests}
 use Rattle.figures.specs.Nodes.{nodeOf, jump}
 use Rattle.admission.specs.LentTests.{rowsBad, rowBad, offWalk, tenTests, walkTests}
 use Rattle.walk.specs.Calls.{openTests, backTests, valueTests, ratioTests, forwardTests, orOutcome, orForwardOutcome, zeros, rolls, openCall, backCall, valueCall, ratioCall, forwardCall}
@@ -24,5 +25,5 @@ use Rattle.walk.specs.Power.{operate}
 use Rattle.walk.specs.Promise.{blankRun}
 
 unfoldable pub computed : Unit {0}
-unfolding B half poolLoss poolRecovery trancheLoss trancheRecovery trancheOutstanding indexOutstanding defaultPayment premiumPayment netValue changeOf jumpOf withSign millionths ratioOf allMoves keeps those paths weight paid total pathSum exact rollNode over legExact defaultCash premiumCash premiumExact mark hazardOf discountOf accrualOf poolLossOf poolRecoveryOf lossOf widthOf outstandingOf treeOf defaultOf premiumOf exactD exactA dates sumOf defaultMost premiumMost same outflow fromBelow pushed distribution tab entry grid any nodeIn rowOf rolled rolledBack anyOver soiled distributionRow poolBad listsBad recoveryBad attachmentsBad hazardsBad discountsBad accrualsBad couponsBad first sheetTests nodeOf jump rowsBad rowBad offWalk tenTests walkTests openTests backTests valueTests ratioTests forwardTests orOutcome orForwardOutcome zeros rolls openCall backCall worth valueCall ratioCall forwardCall backwardRule afterWrite afterOpen afterWalkCall callResult noted stateAfter historyAfter steppedBy rolledBy movedInPlace lowRow heldD heldA heldWorth CallRule operate blankRun
+unfolding B half poolLoss poolRecovery trancheLoss trancheRecovery trancheOutstanding indexOutstanding defaultPayment premiumPayment netValue changeOf jumpOf withSign millionths ratioOf allMoves keeps those paths weight paid total pathSum exact rollNode over legExact defaultCash premiumCash premiumExact mark begun periodOf hazardsAt hazardOf discountOf accrualOf poolLossOf poolRecoveryOf lossOf widthOf outstandingOf treeOf defaultOf premiumOf exactD exactA dates sumOf defaultMost premiumMost same outflow fromBelow pushed distribution tab entry grid any nodeIn rowOf rolled rolledBack anyOver soiled distributionRow poolBad periodsBad listsBad recoveryBad attachmentsBad startsBad hazardsBad discountsBad accrualsBad couponsBad first sheetTests nodeOf jump rowsBad rowBad offWalk tenTests walkTests openTests backTests valueTests ratioTests forwardTests orOutcome orForwardOutcome zeros rolls openCall backCall worth valueCall ratioCall forwardCall backwardRule afterWrite afterOpen afterWalkCall callResult noted stateAfter historyAfter steppedBy rolledBy movedInPlace lowRow heldD heldA heldWorth CallRule operate blankRun
 computed = tt

@@ -4,7 +4,7 @@ use mathlib.Core.Bool.{false}
 use Rattle.tree.specs.Sheet.{spanning}
 use Rattle.refusals.proofs.Limits.{limits}
 use Rattle.walk.specs.Power.{registerAfterCut, eventLeaves, withdrew, stateAfterEvents, everWithdrew}
-use Rattle.wrong.specs.Examples.{deck as deckCatalogue, parted, topped, answersOf, Deck, TranchesAdd, IndexAdds, Refusals, Ratios, Cuts}
+use Rattle.wrong.specs.Examples.{deck as deckCatalogue, parted, topped, changing, answersOf, Deck, TranchesAdd, IndexAdds, PeriodsWalked, Refusals, Ratios, Cuts}
 use Rattle.wrong.proofs.Computing.{computed}
 
 pub deck : Deck
@@ -43,6 +43,16 @@ index-adds =
       walked = record { opened = refl; walked = refl; own = refl };
       rows = refl;
       premiums = refl;
+    }
+
+pub periods-walked : PeriodsWalked
+unfolding computed
+periods-walked =
+    record {
+      within = limits (changing .sheet 7) false .0 refl .0;
+      walked = record { opened = refl; walked = refl; own = refl };
+      defaults = refl;
+      distribution = refl;
     }
 
 pub refusals : Refusals

@@ -19,8 +19,8 @@ use Rattle.walk.specs.Engine.{Engine}
 use Rattle.walk.specs.CallLists.{ownRows, otherRows, issue, opening, back, Catalogue, Run, end, afterWalkCall, callResult, answers}
 use Rattle.walk.specs.Liveness.{CallRule}
 use Rattle.walk.specs.Promise.{Rules, Demand3, blankRun}
-use Rattle.wrong.specs.Examples.{catalogueOf, constantRows, deck, used, toRoot, parted, whole, topped, elsewhere, live, walkAt}
-use Rattle.wrong.specs.Figures.{rowBy, distributionBy, recoveryIgnored, discountBefore, accrualBefore, premiumEveryStep, movesExchanged, hazardOfNext, pastLastCount, legsExchanged, defaultUnpaid, defaultInPremiums, premiumInDefaults, lowerIgnored, lossUncapped, lossRoundedUp, indexRoundedDown, indexByNames, topNotShrunk, shrunkFromBelow, recoveredFromEach, recoveryRoundedUp, premiumAfterRoll, premiumAfterChance, netFactorShort, netLegsExchanged, netReversed, defaultForPremium, lossReversed, defaultReversed, premiumReversed, premiumLeftOut, trancheCoupon, tenThousandths, halfToEven, movesDown, halfMovesDown, movesPastLast, movesLost, nothingMoves, fromLentRow, NoneFigures, Unchanged, unitsCatalogue, FactorNeeded, sliversCatalogue, IndexFactorNeeded, NamesNeeded}
+use Rattle.wrong.specs.Examples.{catalogueOf, constantRows, deck, used, toRoot, parted, whole, topped, changing, elsewhere, live, walkAt}
+use Rattle.wrong.specs.Figures.{rowBy, distributionBy, recoveryIgnored, discountBefore, accrualBefore, premiumEveryStep, movesExchanged, hazardOfNext, pastLastCount, periodMovedFrom, firstPeriod, lastPeriod, nextPeriod, startsFromZero, laidByCount, legsExchanged, defaultUnpaid, defaultInPremiums, premiumInDefaults, lowerIgnored, lossUncapped, lossRoundedUp, indexRoundedDown, indexByNames, topNotShrunk, shrunkFromBelow, recoveredFromEach, recoveryRoundedUp, premiumAfterRoll, premiumAfterChance, netFactorShort, netLegsExchanged, netReversed, defaultForPremium, lossReversed, defaultReversed, premiumReversed, premiumLeftOut, trancheCoupon, tenThousandths, halfToEven, movesDown, halfMovesDown, movesPastLast, forwardMovedFrom, movesLost, nothingMoves, fromLentRow, NoneFigures, Unchanged, unitsCatalogue, FactorNeeded, sliversCatalogue, IndexFactorNeeded, NamesNeeded}
 use Rattle.wrong.proofs.Computing.{computed}
 use Rattle.wrong.proofs.Refuted.{figure, found, back-step, sheet}
 
@@ -30,12 +30,22 @@ use Rattle.wrong.proofs.Refuted.{figure, found, back-step, sheet}
 abbrev opens : Catalogue → ℕ → Run
 opens k n = blankRun k used (issue 7 ∷ opening 7 (otherRows (constantRows n 0)) ∷ [])
 
+abbrev backOnce : Catalogue → Run
+backOnce k = blankRun k used (issue 7 ∷ opening 7 ownRows ∷ back 7 ownRows 1 ∷ [])
+
 -- Demand 3 has a back by 1 keep to the rule, entry by entry.
 by-one : {e : Engine} → Demand3 e → (k : Catalogue) (n : ℕ) → accepted (answers e (opens k n) (back 7 ownRows 1)) ≡ true →
     BackStep (k .sheet 7 .sheet) (end e (opens k n) .walk .position - 1) (end e (opens k n) .rows)
     (callResult e (k .sheet) (end e (opens k n)) (back 7 ownRows 1) .state .rows)
 unfolding blankRun CallRule callResult afterWalkCall
 by-one d k n p = back-step _ _ _ _ (d k used _ .serves .ruled (back 7 ownRows 1) .does p .rows)
+
+-- And so does a second one.
+by-two : {e : Engine} → Demand3 e → (k : Catalogue) → accepted (answers e (backOnce k) (back 7 ownRows 1)) ≡ true →
+    BackStep (k .sheet 7 .sheet) (end e (backOnce k) .walk .position - 1) (end e (backOnce k) .rows)
+    (callResult e (k .sheet) (end e (backOnce k)) (back 7 ownRows 1) .state .rows)
+unfolding blankRun CallRule callResult afterWalkCall
+by-two d k p = back-step _ _ _ _ (d k used _ .serves .ruled (back 7 ownRows 1) .does p .rows)
 
 not-recoveryIgnored : Demand3 recoveryIgnored → ⊥
 unfolding computed rowBy
@@ -65,6 +75,31 @@ not-hazardOfNext d = omega (arith, by-one d deck 6 refl .default 0 0 (lit≤ tt)
 not-pastLastCount : Demand3 pastLastCount → ⊥
 unfolding computed rowBy
 not-pastLastCount d = omega (arith, by-one d deck 6 refl .default 1 2 (lit≤ tt) (lit≤ tt))
+
+not-periodMovedFrom : Demand3 periodMovedFrom → ⊥
+unfolding computed rowBy
+not-periodMovedFrom d = omega (arith, by-one d changing 6 refl .default 1 0 (lit≤ tt) (lit≤ tt))
+
+not-firstPeriod : Demand3 firstPeriod → ⊥
+unfolding computed rowBy
+not-firstPeriod d = omega (arith, by-one d changing 6 refl .default 1 0 (lit≤ tt) (lit≤ tt))
+
+-- The two steps before it show the last period's hazards taken for theirs.
+not-lastPeriod : Demand3 lastPeriod → ⊥
+unfolding computed rowBy
+not-lastPeriod d = omega (arith, by-two d changing refl .default 1 0 (lit≤ tt) (lit≤ tt))
+
+not-nextPeriod : Demand3 nextPeriod → ⊥
+unfolding computed rowBy
+not-nextPeriod d = omega (arith, by-one d changing 6 refl .default 1 0 (lit≤ tt) (lit≤ tt))
+
+not-startsFromZero : Demand3 startsFromZero → ⊥
+unfolding computed rowBy
+not-startsFromZero d = omega (arith, by-two d changing refl .default 1 0 (lit≤ tt) (lit≤ tt))
+
+not-laidByCount : Demand3 laidByCount → ⊥
+unfolding computed rowBy
+not-laidByCount d = omega (arith, by-one d changing 6 refl .default 1 0 (lit≤ tt) (lit≤ tt))
 
 not-legsExchanged : Demand3 legsExchanged → ⊥
 unfolding computed rowBy
@@ -189,7 +224,7 @@ not-halfToEven r = omega (arith, ap (figure 0) (r .ratio sheet live (walkAt 0) (
 abbrev halves : Brought
 halves =
     brought (record { names = 1; steps = 2; tranches = 1; recovery = 0; number = 7 })
-    (0 ∷ 5 ∷ []) (50_000 ∷ []) (1 ∷ 1 ∷ []) (1 ∷ 1 ∷ []) (0 ∷ 0 ∷ [])
+    (0 ∷ 5 ∷ []) (1 ∷ []) (50_000 ∷ []) (1 ∷ 1 ∷ []) (1 ∷ 1 ∷ []) (0 ∷ 0 ∷ [])
 
 not-movesDown : Rules movesDown → ⊥
 unfolding computed distributionBy
@@ -202,6 +237,10 @@ not-halfMovesDown r = omega (arith, r .forward halves live (replicate 2 0) 2 .do
 not-movesPastLast : Rules movesPastLast → ⊥
 unfolding computed distributionBy
 not-movesPastLast r = omega (arith, r .forward halves live (replicate 2 0) 2 .does refl .row 1 (lit≤ tt))
+
+not-forwardMovedFrom : Rules forwardMovedFrom → ⊥
+unfolding computed distributionBy
+not-forwardMovedFrom r = omega (arith, r .forward (changing .sheet 7) live (replicate 3 0) 3 .does refl .row 1 (lit≤ tt))
 
 not-movesLost : Rules movesLost → ⊥
 unfolding computed distributionBy sumTo
@@ -225,6 +264,12 @@ none-figures =
       moves-exchanged = not-movesExchanged;
       hazard-of-next = not-hazardOfNext;
       past-last-count = not-pastLastCount;
+      period-moved-from = not-periodMovedFrom;
+      first-period = not-firstPeriod;
+      last-period = not-lastPeriod;
+      next-period = not-nextPeriod;
+      starts-from-zero = not-startsFromZero;
+      laid-by-count = not-laidByCount;
       legs-exchanged = not-legsExchanged;
       default-unpaid = not-defaultUnpaid;
       default-in-premiums = not-defaultInPremiums;
@@ -254,6 +299,7 @@ none-figures =
       moves-down = not-movesDown;
       half-moves-down = not-halfMovesDown;
       moves-past-last = not-movesPastLast;
+      forward-moved-from = not-forwardMovedFrom;
       moves-lost = not-movesLost;
       nothing-moves = not-nothingMoves;
       from-lent-row = not-fromLentRow;
@@ -261,7 +307,7 @@ none-figures =
 
 pub unchanged : Unchanged
 unfolding computed rowBy distributionBy
-unchanged = record { sheet = refl; chances = refl; legs = refl; losses = refl; losses-at-the-top = refl; outstandings = refl; index = refl; tranches = refl; nets = refl; jumps = refl; sizes = refl; moves = refl }
+unchanged = record { sheet = refl; chances = refl; periods = refl; forward-periods = refl; legs = refl; losses = refl; losses-at-the-top = refl; outstandings = refl; index = refl; tranches = refl; nets = refl; jumps = refl; sizes = refl; moves = refl }
 
 -- ---- bounds
 

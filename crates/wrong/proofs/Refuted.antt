@@ -17,15 +17,15 @@ use Rattle.sheet.specs.Brought.{Brought}
 use Rattle.walk.specs.declared.Walk.{Walk}
 use Rattle.rows.specs.Rows.{Rows}
 use Rattle.walk.specs.Answers.{fresh, Said}
-use Rattle.walk.specs.RefusalOrders.{RefusalOrder, Judges}
+use Rattle.walk.specs.RefusalOrders.{isEarly, RefusalOrder, Judges}
 use Rattle.walk.specs.CallRules.{BackStep, BackSteps}
 use Rattle.walk.specs.Engine.{Engine}
 use Rattle.walk.specs.CallLists.{ownRows, otherRows, Call, issue, withdraw, opening, back, value, State, Catalogue, blankState, history}
 use Rattle.walk.specs.Power.{call, Event, returned, eventLeaves, withdrew, stateAfterEvents, everWithdrew}
 use Rattle.walk.specs.Accuracy.{WalkAccuracy}
 use Rattle.walk.specs.Promise.{Rules, Demand3, blankRun}
-use Rattle.wrong.specs.Substitutes.{alwaysLive, issuedAgain, byteLeft, bitsSet, otherByteWritten, refusedStores, allRefused, exchangedNumbers, withdrawnFirst, notCleared, refusedZeroes, refusedCloses, unissuedTaken, otherLength, zeroAlone, rowsLeft, oneFigure, rootAtOnce, oneRounding, roundedDown, countBefore, premiumRoundedDown, indexByLoss, positionMadeUp, stepEarly, zeroRefused, refusedMoves, closedAtRoot, oneAnswer, firstCoupon, netUnsigned, valueZeroes, withdrawnAnswered, valueZeroAlone, refusedTells, walkAbove, upsideDown, signLost, restCut, halfUpwards, paymentLost, flatForScale, ratioAnswered, stepShort, inPlace, refusedWrites, forwardAnswered}
-use Rattle.wrong.specs.Refuted.{ceilingsPassed, Power, Clearing, NoneKeeps}
+use Rattle.wrong.specs.Substitutes.{alwaysLive, issuedAgain, byteLeft, bitsSet, otherByteWritten, refusedStores, allRefused, exchangedNumbers, withdrawnFirst, notCleared, refusedZeroes, refusedCloses, unissuedTaken, otherLength, zeroAlone, rowsLeft, oneFigure, rootAtOnce, oneRounding, roundedDown, countBefore, premiumRoundedDown, indexByLoss, positionMadeUp, stepEarly, zeroRefused, refusedMoves, closedAtRoot, oneAnswer, firstCoupon, netUnsigned, valueZeroes, withdrawnAnswered, valueZeroAlone, withdrawnUnissued, refusedTells, walkAbove, upsideDown, signLost, restCut, halfUpwards, paymentLost, flatForScale, ratioAnswered, stepShort, inPlace, refusedWrites, forwardAnswered}
+use Rattle.wrong.specs.Refuted.{ceilingsPassed, EarlyNumbers, Power, Clearing, NoneKeeps}
 use Rattle.wrong.specs.Examples.{catalogueOf, constantRows, deck, used, toRoot, whole, elsewhere, live, walkAt}
 use Rattle.wrong.proofs.Computing.{computed}
 
@@ -149,6 +149,7 @@ small recovery attachments =
       tranches = 1;
       recovery = recovery;
       attachments = attachments;
+      starts = 1 ∷ [];
       hazards = 0 ∷ [];
       discounts = 1 ∷ [];
       accruals = 1 ∷ [];
@@ -277,6 +278,11 @@ not-refusedTells : Demand3 refusedTells → ⊥
 unfolding computed
 not-refusedTells d = omega (arith, ap length (d deck used (opened (withdraw 7 ∷ [])) .owed .hidden 7 refl ownRows 0 0 .silent))
 
+not-withdrawnUnissued-later : Power withdrawnUnissued → ⊥
+unfolding computed everWithdrew withdrew eventLeaves stateAfterEvents isEarly
+not-withdrawnUnissued-later p =
+    true≢false (sym (p (blankState used) ended .shut 7 refl .value (deck .sheet 7) (walkAt 2) (constantRows 6 0) 0 0 refl .0 .early))
+
 not-refusedTells-later : Power refusedTells → ⊥
 unfolding computed everWithdrew withdrew eventLeaves stateAfterEvents
 not-refusedTells-later p =
@@ -370,6 +376,22 @@ not-forwardAnswered-later : Power forwardAnswered → ⊥
 unfolding computed everWithdrew withdrew eventLeaves stateAfterEvents
 not-forwardAnswered-later p = true≢false (p (blankState used) ended .shut 7 refl .forward sheet (replicate 3 0) 1 refl .0 .refused)
 
+pub early-numbers : EarlyNumbers
+unfolding isEarly
+early-numbers =
+    record {
+      value-25 = λ x g w l j k. refl;
+      value-9 = λ x g w l j k. refl;
+      value-10 = λ x g w l j k. refl;
+      value-11 = λ x g w l j k. refl;
+      value-14 = λ x g w l j k. refl;
+      forward-25 = λ x g row i. refl;
+      forward-13 = λ x g row i. refl;
+      withdraw-10 = λ g y. refl;
+      issue-17 = λ g y. refl;
+      issue-25 = λ g y. refl;
+    }
+
 pub none-keeps : NoneKeeps
 none-keeps =
     record {
@@ -380,6 +402,7 @@ none-keeps =
       byte-left-later = not-byteLeft-later;
       bits-set-later = not-bitsSet-later;
       zero-alone-later = not-zeroAlone-later;
+      withdrawn-unissued-later = not-withdrawnUnissued-later;
       refused-tells-later = not-refusedTells-later;
       ratio-answered-later = not-ratioAnswered-later;
       forward-answered-later = not-forwardAnswered-later;

@@ -24,7 +24,7 @@ use Rattle.walk.specs.declared.Walk.{Walk}
 use Rattle.figures.specs.declared.Answer.the-variants as Answer
 use Rattle.walk.specs.Answers.{fresh}
 use Rattle.figures.specs.Nodes.{jump}
-use Rattle.admission.specs.LentTests.{isWithdrawn, isUnissued}
+use Rattle.admission.specs.LentTests.{rowsBad, isWithdrawn, isUnissued}
 use Rattle.walk.specs.Calls.{openTests, backTests, valueTests, ratioTests, forwardTests, orOutcome, orForwardOutcome, zeros, rolls}
 use Rattle.figures.specs.Replies.{worth}
 use Rattle.walk.specs.CallRules.{says}
@@ -130,9 +130,9 @@ swapped m n l =
 abbrev pub exchanging : SheetCall → ℕ → ℕ → Engine
 exchanging o m n = judging o (λ a. swapped m n)
 
--- Document 01's checks of each call, in order.
+-- Document 01's checks of each call, in order, with T-06's.
 abbrev pub numbersToTen : List ℕ → List ℕ
-numbersToTen more = 1 ∷ 2 ∷ 3 ∷ 4 ∷ 5 ∷ 6 ∷ 7 ∷ 8 ∷ 9 ∷ 10 ∷ more
+numbersToTen more = 1 ∷ 2 ∷ 3 ∷ 4 ∷ 25 ∷ 5 ∷ 6 ∷ 7 ∷ 8 ∷ 9 ∷ 10 ∷ more
 
 abbrev pub checks : SheetCall → List ℕ
 checks Open = numbersToTen []
@@ -145,13 +145,17 @@ abbrev pub has : ℕ → List ℕ → Bool
 has n [] = false
 has n (m ∷ l) = eqb m n || has n l
 
+-- Where a check stands in that order: 25 between 4 and 5.
+abbrev pub rank : ℕ → ℕ
+rank n = cond (eqb n 25) 9 (2 * n)
+
 -- A call checks m and, later, n, and can break both: no number is both withdrawn and unissued.
 abbrev pub breakable : SheetCall → ℕ → ℕ → Bool
-breakable o m n = has m (checks o) && (has n (checks o) && (ltb m n && not (eqb m 9 && eqb n 10)))
+breakable o m n = has m (checks o) && (has n (checks o) && (ltb (rank m) (rank n) && not (eqb m 9 && eqb n 10)))
 
 -- The first where the check n stands before m, else the second.
 abbrev pub from : {A : Type 0} → ℕ → ℕ → A → A → A
-from m n kept broken = cond (ltb n m) kept broken
+from m n kept broken = cond (ltb (rank n) (rank m)) kept broken
 
 -- A call that keeps the checks before m and breaks all others: of 9 and 10 it breaks 9, or 10 where m or n is 10.
 -- Its index does not jump, which breaks 15 and 16; where m is 16 it jumps by 10, and the tranche by -10,000,000.
@@ -160,7 +164,7 @@ brokenFrom m n =
     inputs
     (brought
     (record { names = 1; steps = 1; tranches = from m 1 1 9; recovery = from m 3 1_000_000_000 1_000_000_001; number = 7 })
-    (from m 4 0 5 ∷ 5 ∷ []) (from m 5 0 1_000_000_001 ∷ from m 2 [] (0 ∷ [])) (from m 6 1 0 ∷ []) (from m 7 10 0 ∷ [])
+    (from m 4 0 5 ∷ 5 ∷ []) (from m 25 1 2 ∷ []) (from m 5 0 1_000_000_001 ∷ from m 2 [] (0 ∷ [])) (from m 6 1 0 ∷ []) (from m 7 10 0 ∷ [])
     (0 ∷ from m 8 1 10_000_001 ∷ []))
     (set blankRegister 7 (from m 10 0xA5 (cond (eqb m 10 || eqb n 10) 0xFF 0x00)))
     (from m 11 (record { «open» = true; number = 7; position = 0 }) fresh)
@@ -181,7 +185,7 @@ isForward Forward = true
 abbrev pub lengths : SheetCall → Inputs → List (ℕ × ℕ)
 lengths o a =
     let x : Terms = a .sheet .sheet in
-    (length (x .attachments), x .tranches + 1) ∷ (length (x .hazards), x .names) ∷ (length (x .discounts), x .steps)
+    (length (x .attachments), x .tranches + 1) ∷ (length (x .hazards), length (x .starts) * x .names) ∷ (length (x .discounts), x .steps)
     ∷ (length (x .accruals), x .steps) ∷ (length (a .sheet .coupons), x .tranches + 1) ∷ (length (a .register), 256)
     ∷ cond (isForward o) ((length (a .row), x .names + 1) ∷ [])
     ((length (a .rows .defaults), (x .tranches + 1) * (x .names + 1)) ∷ (length (a .rows .premiums), (x .tranches + 1) * (x .names + 1)) ∷ [])
@@ -206,7 +210,7 @@ resized place longer =
     let list : ℕ → List ℕ → List ℕ = λ i l. cond (eqb i place) (cond longer (l ++ (9 ∷ [])) (take (length l - 1) l)) l in
     inputs
     (brought (record { names = 1; steps = 1; tranches = 1; recovery = 0; number = 7 })
-    (list 0 (0 ∷ 5 ∷ [])) (list 1 (0 ∷ [])) (list 2 (1 ∷ [])) (list 3 (1 ∷ [])) (list 4 (0 ∷ 0 ∷ [])))
+    (list 0 (0 ∷ 5 ∷ [])) (1 ∷ []) (list 1 (0 ∷ [])) (list 2 (1 ∷ [])) (list 3 (1 ∷ [])) (list 4 (0 ∷ 0 ∷ [])))
     (list 5 live) (walkAt 1) (rowsOf (list 6 (replicate 4 0)) (list 7 (replicate 4 0))) (list 6 (0 ∷ 0 ∷ [])) 0 0 0
 
 -- ---- 1 and 3 to 8, at their limits, in open
@@ -227,7 +231,32 @@ attachmentsTo flat most =
     || any (a .sheet .sheet .tranches + 1) (λ j. ltb most (getD (a .sheet .sheet .attachments) j 0))) Open
 
 abbrev pub hazardsTo : ℕ → Engine
-hazardsTo most = tested 5 (λ a. any (a .sheet .sheet .names) (λ k. ltb most (getD (a .sheet .sheet .hazards) k 0))) Open
+hazardsTo most = tested 5 (λ a. any (length (a .sheet .sheet .hazards)) (λ k. ltb most (getD (a .sheet .sheet .hazards) k 0))) Open
+
+-- Looked for among the first n alone.
+abbrev pub firstHazards : Engine
+firstHazards = tested 5 (λ a. any (a .sheet .sheet .names) (λ k. ltb 1_000_000_000 (getD (a .sheet .sheet .hazards) k 0))) Open
+
+-- n hazards a start.
+abbrev pub hazardsDue : Terms → ℕ
+hazardsDue x = length (x .starts) * x .names
+
+-- 2, of the periods: their least and most, and how many hazards are due.
+abbrev pub periodsIn : ℕ → ℕ → (Terms → ℕ) → Engine
+periodsIn least most due =
+    tested 2 (λ a.
+    let x : Terms = a .sheet .sheet in
+    differs (length (x .attachments)) (x .tranches + 1) || (outside least most (length (x .starts)) || differs (length (x .hazards)) (due x))
+    || differs (length (x .discounts)) (x .steps) || differs (length (x .accruals)) (x .steps)
+    || differs (length (a .sheet .coupons)) (x .tranches + 1) || rowsBad (a .sheet) (a .register) (a .rows)) Open
+
+-- 25: the first start, whether a start does not rise above the one before it, and the most.
+abbrev pub startsIn : (ℕ → Bool) → (ℕ → ℕ → Bool) → (Terms → ℕ) → Engine
+startsIn off flat most =
+    tested 25 (λ a.
+    let x : Terms = a .sheet .sheet in
+    off (getD (x .starts) 0 0) || any (pred (length (x .starts))) (λ j. flat (getD (x .starts) (suc j) 0) (getD (x .starts) j 0))
+    || any (length (x .starts)) (λ j. ltb (most x) (getD (x .starts) j 0))) Open
 
 abbrev pub discountsIn : ℕ → ℕ → Engine
 discountsIn least most = tested 6 (λ a. any (a .sheet .sheet .steps) (λ i. outside least most (getD (a .sheet .sheet .discounts) i 0))) Open
@@ -246,16 +275,16 @@ couponsTo most = tested 8 (λ a. any (a .sheet .sheet .tranches + 1) (λ j. ltb 
 abbrev pub pool : ℕ → ℕ → ℕ → Brought
 pool n m r =
     brought (record { names = n; steps = m; tranches = r; recovery = 0; number = 7 })
-    (tab (r + 1) (λ j. j)) (replicate n 0) (replicate m 1) (replicate m 1) (replicate (r + 1) 0)
+    (tab (r + 1) (λ j. j)) (1 ∷ []) (replicate n 0) (replicate m 1) (replicate m 1) (replicate (r + 1) 0)
 
 abbrev pub poolAlone : ℕ → ℕ → ℕ → Brought
-poolAlone n m r = brought (record { names = n; steps = m; tranches = r; recovery = 0; number = 7 }) [] [] [] [] []
+poolAlone n m r = brought (record { names = n; steps = m; tranches = r; recovery = 0; number = 7 }) [] [] [] [] [] []
 
 -- One name and one tranche, and all but one of its terms plain.
 abbrev pub terms : ℕ → ℕ → ℕ → ℕ → ℕ → List ℕ → ℕ → Brought
 terms recovery low high hazard discount accruals coupon =
     brought (record { names = 1; steps = length accruals; tranches = 1; recovery = recovery; number = 7 })
-    (low ∷ high ∷ []) (hazard ∷ []) (replicate (length accruals) discount) accruals (0 ∷ coupon ∷ [])
+    (low ∷ high ∷ []) (1 ∷ []) (hazard ∷ []) (replicate (length accruals) discount) accruals (0 ∷ coupon ∷ [])
 
 abbrev pub ofRecovery : ℕ → Brought
 ofRecovery y = terms y 0 5 0 1 (1 ∷ []) 0
@@ -265,6 +294,12 @@ ofAttachments low high = terms 0 low high 0 1 (1 ∷ []) 0
 
 abbrev pub ofHazard : ℕ → Brought
 ofHazard y = terms 0 0 5 y 1 (1 ∷ []) 0
+
+-- One name and sixteen steps with these starts, and as many hazards.
+abbrev pub ofStarts : List ℕ → List ℕ → Brought
+ofStarts starts hazards =
+    brought (record { names = 1; steps = 16; tranches = 1; recovery = 0; number = 7 })
+    (0 ∷ 5 ∷ []) starts hazards (replicate 16 1) (replicate 16 1) (0 ∷ 0 ∷ [])
 
 abbrev pub ofDiscount : ℕ → Brought
 ofDiscount y = terms 0 0 5 0 y (1 ∷ []) 0
@@ -435,6 +470,17 @@ pub record NoneChecks : Type 0 where
   pub tranches-one-refused : ByOpen (poolLimits 1 125 1 3650 2 8) (pool 1 1 1) 0
   pub tranches-most-refused : ByOpen (poolLimits 1 125 1 3650 1 7) (pool 1 1 8) 0
   pub tranches-more : ByOpen (poolLimits 1 125 1 3650 1 9) (pool 1 1 9) 1
+  -- 2, of the periods; and 25
+  pub periods-none : ByOpen (periodsIn 0 16 hazardsDue) (ofStarts [] []) 2
+  pub periods-one-refused : ByOpen (periodsIn 2 16 hazardsDue) (ofStarts (1 ∷ []) (0 ∷ [])) 0
+  pub periods-most-refused : ByOpen (periodsIn 1 15 hazardsDue) (ofStarts (tab 16 suc) (replicate 16 0)) 0
+  pub periods-more : ByOpen (periodsIn 1 17 hazardsDue) (ofStarts (tab 17 suc) (replicate 17 0)) 2
+  pub hazards-by-names : ByOpen (periodsIn 1 16 (λ x. x .names)) (ofStarts (1 ∷ 2 ∷ []) (0 ∷ [])) 2
+  pub first-start-less : ByOpen (startsIn (ltb 1) leb (λ x. x .steps)) (ofStarts (0 ∷ []) (0 ∷ [])) 25
+  pub first-start-more : ByOpen (startsIn (λ s. ltb s 1) leb (λ x. x .steps)) (ofStarts (2 ∷ []) (0 ∷ [])) 25
+  pub starts-equal : ByOpen (startsIn (λ s. differs s 1) ltb (λ x. x .steps)) (ofStarts (1 ∷ 1 ∷ []) (0 ∷ 0 ∷ [])) 25
+  pub start-most-refused : ByOpen (startsIn (λ s. differs s 1) leb (λ x. x .steps - 1)) (ofStarts (1 ∷ 16 ∷ []) (0 ∷ 0 ∷ [])) 0
+  pub start-more : ByOpen (startsIn (λ s. differs s 1) leb (λ x. x .steps + 1)) (ofStarts (1 ∷ 17 ∷ []) (0 ∷ 0 ∷ [])) 25
   -- 3 to 8
   pub recovery-most-refused : ByOpen (recoveryTo 999_999_999) (ofRecovery 1_000_000_000) 0
   pub recovery-more : ByOpen (recoveryTo 1_000_000_001) (ofRecovery 1_000_000_001) 3
@@ -443,6 +489,7 @@ pub record NoneChecks : Type 0 where
   pub attachment-more : ByOpen (attachmentsTo leb 1_000_000_001) (ofAttachments 0 1_000_000_001) 4
   pub hazard-most-refused : ByOpen (hazardsTo 999_999_999) (ofHazard 1_000_000_000) 0
   pub hazard-more : ByOpen (hazardsTo 1_000_000_001) (ofHazard 1_000_000_001) 5
+  pub hazard-of-later-period : ByOpen firstHazards (ofStarts (1 ∷ 2 ∷ []) (0 ∷ 1_000_000_001 ∷ [])) 5
   pub discount-zero : ByOpen (discountsIn 0 1_000_000_000) (ofDiscount 0) 6
   pub discount-one-refused : ByOpen (discountsIn 2 1_000_000_000) (ofDiscount 1) 0
   pub discount-most-refused : ByOpen (discountsIn 1 999_999_999) (ofDiscount 1_000_000_000) 0
@@ -510,6 +557,8 @@ pub record Unmoved : Type 0 where
   pub pool : poolLimits 1 125 1 3650 1 8 ≡ ours
   pub recovery : recoveryTo 1_000_000_000 ≡ ours
   pub attachments : attachmentsTo leb 1_000_000_000 ≡ ours
+  pub periods : periodsIn 1 16 hazardsDue ≡ ours
+  pub starts : startsIn (λ s. differs s 1) leb (λ x. x .steps) ≡ ours
   pub hazards : hazardsTo 1_000_000_000 ≡ ours
   pub discounts : discountsIn 1 1_000_000_000 ≡ ours
   pub accruals : accrualsIn 1_000_000_000 10_000_000_000 1 ≡ ours

@@ -10,7 +10,7 @@ use Rattle.register.specs.Cut.{mayBeLeft}
 use Rattle.register.specs.Events.{blankRegister}
 use Rattle.sheet.specs.Terms.{Terms}
 use Rattle.tree.specs.Sheet.{WholePool, spanning}
-use Rattle.tree.specs.Trials.{worked, unevenPool, toppedPool}
+use Rattle.tree.specs.Trials.{worked, unevenPool, toppedPool, twoPeriods}
 use Rattle.sheet.specs.Brought.{Brought, brought}
 use Rattle.sheet.specs.Limits.{Limits}
 use Rattle.walk.specs.declared.Walk.{Walk}
@@ -108,6 +108,7 @@ parted =
       tranches = 2;
       recovery = 350_000_000;
       attachments = 0 ∷ 150_000_000 ∷ 300_000_000 ∷ [];
+      starts = 1 ∷ [];
       hazards = 123_456_789 ∷ 234_567_891 ∷ 345_678_912 ∷ [];
       discounts = 987_654_321 ∷ 976_543_210 ∷ [];
       accruals = 250_000_000 ∷ 253_000_000 ∷ [];
@@ -164,6 +165,23 @@ pub record IndexAdds : Type 0 where
   pub premiums : heldA ours toppedRun (topped .sheet 7 .sheet) 0 0 + heldA ours toppedRun (topped .sheet 7 .sheet) 1 0
       ≡ heldA ours toppedRun (topped .sheet 7 .sheet) 2 0
 
+-- ---- two periods
+
+abbrev pub changing : Catalogue
+changing = catalogueOf twoPeriods (1_000_000 ∷ 500_000 ∷ [])
+
+abbrev pub periodsRun : Run
+periodsRun = blankRun changing used (issue 7 ∷ opening 7 ownRows ∷ back 7 ownRows 1 ∷ back 7 ownRows 2 ∷ [])
+
+-- Walked over the start of the second, and forward over it.
+pub record PeriodsWalked : Type 0 where
+  pub within : Limits (changing .sheet 7)
+  pub walked : Walked ours periodsRun 7 3
+  pub defaults : end ours periodsRun .rows .defaults
+      ≡ 260_500_000 ∷ 308_000_000 ∷ 0 ∷ 260_500_000 ∷ 308_000_000 ∷ 0 ∷ []
+  pub distribution : ours .forward (changing .sheet 7) live (replicate 3 5) 3
+      ≡ record { said = says []; row = 567_000_000 ∷ 345_000_000 ∷ 88_000_000 ∷ [] }
+
 -- ---- refusals
 
 -- A list in which most calls are refused.
@@ -182,7 +200,7 @@ abbrev pub openedWith : ℕ → ℕ → List ℕ → ℕ → ℕ → ℕ → ℕ
 openedWith names recovery attachments hazard discount accrual coupon =
     ours .opening
     (brought (record { names = names; steps = 1; tranches = 1; recovery = recovery; number = 7 })
-    attachments (hazard ∷ []) (discount ∷ []) (accrual ∷ []) (coupon ∷ 0 ∷ []))
+    attachments (1 ∷ []) (hazard ∷ []) (discount ∷ []) (accrual ∷ []) (coupon ∷ 0 ∷ []))
     live fresh (constantRows 4 0) .said
 
 pub record Refusals : Type 0 where

@@ -4,7 +4,7 @@ use Prim.Native.Nat.{ℕ, zero, suc, pred, _+_, _-_, _*_, _/_, _%_, _^_, _≤_, 
 use mathlib.Core.Path.{_≡_}
 use mathlib.Core.Bool.{cond}
 use mathlib.Core.List.{List, [], _∷_}
-use lib.ListN.{getD, replicate}
+use lib.ListN.{length, getD, replicate}
 use lib.Dec.{ltb, eqb}
 use lib.IntN.{ℤ, pos, natAbs, _+ℤ_, _-ℤ_, _*ℤ_}
 use Rattle.cash.specs.declared.Node.{Node}
@@ -17,6 +17,7 @@ use Rattle.tree.specs.Paths.{survive, default}
 use Rattle.tree.specs.Backward.{rollNode, Leg}
 use Rattle.tree.specs.Legs.{defaultLeg, premiumLeg}
 use Rattle.sheet.specs.Terms.{Terms}
+use Rattle.sheet.specs.Periods.{begun, periodOf, hazardsInto}
 use Rattle.tree.specs.Sheet.{hazardOf, discountOf, accrualOf, poolLossOf, poolRecoveryOf, lossOf, widthOf, outstandingOf}
 use Rattle.tree.specs.Sheet.{treeOf, defaultOf, premiumOf, dates, WholePool, spanning}
 use Rattle.tree.specs.Forward.{same, outflow, fromBelow, pushed, errors}
@@ -34,7 +35,7 @@ use Rattle.walk.specs.CallLists.{ownRows as sameRows, otherRows, issue, opening
 use Rattle.walk.specs.Accuracy.{Walked, heldD, heldA}
 use Rattle.walk.specs.Promise.{Rules, Demand3, blankRun}
 use Rattle.wrong.specs.Substitutes.{withSaid, byAnswer, valueBy, forwardBy, backRows, backNodes, valueNets, ratioOfRows}
-use Rattle.wrong.specs.Examples.{catalogueOf, constantRows, used, deck, root, ratioOn, whole, wholeRun, toppedRun}
+use Rattle.wrong.specs.Examples.{catalogueOf, constantRows, used, deck, root, ratioOn, whole, wholeRun, toppedRun, changing, periodsRun, live}
 
 -- ---- back: both rows by other steps
 
@@ -69,6 +70,7 @@ sheetWith x recovery discounts accruals =
       tranches = x .tranches;
       recovery = recovery;
       attachments = x .attachments;
+      starts = x .starts;
       hazards = x .hazards;
       discounts = discounts;
       accruals = accruals;
@@ -93,24 +95,50 @@ premiumEveryStep = backOn (λ x. sheetWith x (x .recovery) (x .discounts) (repli
 abbrev pub movesExchanged : Engine
 movesExchanged = backNodes (λ hazard discount defaulted survived. rollNode hazard discount survived defaulted)
 
--- By other chances of a default from a count.
-abbrev chanced : (Terms → ℕ → ℕ) → (Terms → ℕ → Leg) → Step
+-- By other chances of a default into a step from a count.
+abbrev chanced : (Terms → ℕ → ℕ → ℕ) → (Terms → ℕ → Leg) → Step
 chanced hazard leg x i row =
     rowOf x (λ j k.
-    rollNode (hazard x k) (discountOf x (suc i))
+    rollNode (hazard x (suc i) k) (discountOf x (suc i))
     (nodeIn x row j (suc k) + leg x j .rounded (suc i) k default)
     (nodeIn x row j k + leg x j .rounded (suc i) k survive))
 
-abbrev backChances : (Terms → ℕ → ℕ) → Engine
+abbrev backChances : (Terms → ℕ → ℕ → ℕ) → Engine
 backChances hazard = backSteps (chanced hazard defaultOf) (chanced hazard premiumOf)
 
 -- p(k + 1) for p(k).
 abbrev pub hazardOfNext : Engine
-hazardOfNext = backChances (λ x k. hazardOf x 0 (suc k))
+hazardOfNext = backChances (λ x s k. hazardOf x s (suc k))
 
 -- A default from the last count, with the chance of the one before it.
 abbrev pub pastLastCount : Engine
-pastLastCount = backChances (λ x k. getD (x .hazards) (min k (pred (x .names))) 0)
+pastLastCount = backChances (λ x s k. getD (hazardsInto x s) (min k (pred (x .names))) 0)
+
+-- By the hazards of another period, told by the step that is moved into.
+abbrev inPeriod : (Terms → ℕ → ℕ) → Terms → ℕ → ℕ → ℕ
+inPeriod period x s k = cond (ltb k (x .names)) (getD (x .hazards) (period x s * x .names + k) 0) 0
+
+-- That of the step moved from.
+abbrev pub periodMovedFrom : Engine
+periodMovedFrom = backChances (inPeriod (λ x s. periodOf (x .starts) (pred s)))
+
+abbrev pub firstPeriod : Engine
+firstPeriod = backChances (inPeriod (λ x s. 0))
+
+abbrev pub lastPeriod : Engine
+lastPeriod = backChances (inPeriod (λ x s. pred (length (x .starts))))
+
+-- One later, as if periods were counted from 1.
+abbrev pub nextPeriod : Engine
+nextPeriod = backChances (inPeriod (λ x s. begun (x .starts) s))
+
+-- Starts as if steps were counted from 0.
+abbrev pub startsFromZero : Engine
+startsFromZero = backChances (inPeriod (λ x s. periodOf (x .starts) (suc s)))
+
+-- Hazards laid out count by count.
+abbrev pub laidByCount : Engine
+laidByCount = backChances (λ x s k. cond (ltb k (x .names)) (getD (x .hazards) (k * length (x .starts) + periodOf (x .starts) s) 0) 0)
 
 -- ---- back: the cash
 
@@ -324,9 +352,12 @@ distributionBy step q (suc i) k = step (suc i) (distributionBy step q i) k
 abbrev first : ℕ → ℕ
 first k = B * same 0 k
 
--- Moves by another rounding.
+-- Moves by another rounding, and by other chances.
+abbrev movesBy : (ℕ → ℕ) → (Terms → ℕ → ℕ → ℕ) → Terms → ℕ → (ℕ → ℕ) → ℕ → ℕ
+movesBy round hazard x s q k = q k - round (q k * hazard x s k) + fromBelow (λ c. round (q c * hazard x s c)) k
+
 abbrev moves : (ℕ → ℕ) → Terms → ℕ → (ℕ → ℕ) → ℕ → ℕ
-moves round x s q k = q k - round (q k * hazardOf x s k) + fromBelow (λ c. round (q c * hazardOf x s c)) k
+moves round = movesBy round hazardOf
 
 abbrev pub movesDown : Engine
 movesDown = forwardRow (λ x q. distributionBy (moves (λ y. y / B) x) first)
@@ -339,6 +370,10 @@ halfMovesDown = forwardRow (λ x q. distributionBy (moves (λ y. (y + 499_999_99
 abbrev pub movesPastLast : Engine
 movesPastLast =
     forwardRow (λ x q. distributionBy (λ s p k. pushed (treeOf x) s p k - cond (eqb k (x .names)) (half (p k * hazardOf x s (pred k))) 0) first)
+
+-- Each move by the period of the step moved from.
+abbrev pub forwardMovedFrom : Engine
+forwardMovedFrom = forwardRow (λ x q. distributionBy (movesBy half (inPeriod (λ y s. periodOf (y .starts) (pred s))) x) first)
 
 -- What moves is lost.
 abbrev pub movesLost : Engine
@@ -363,6 +398,12 @@ pub record NoneFigures : Type 0 where
   pub moves-exchanged : Demand3 movesExchanged → ⊥
   pub hazard-of-next : Demand3 hazardOfNext → ⊥
   pub past-last-count : Demand3 pastLastCount → ⊥
+  pub period-moved-from : Demand3 periodMovedFrom → ⊥
+  pub first-period : Demand3 firstPeriod → ⊥
+  pub last-period : Demand3 lastPeriod → ⊥
+  pub next-period : Demand3 nextPeriod → ⊥
+  pub starts-from-zero : Demand3 startsFromZero → ⊥
+  pub laid-by-count : Demand3 laidByCount → ⊥
   pub legs-exchanged : Demand3 legsExchanged → ⊥
   pub default-unpaid : Demand3 defaultUnpaid → ⊥
   pub default-in-premiums : Demand3 defaultInPremiums → ⊥
@@ -392,6 +433,7 @@ pub record NoneFigures : Type 0 where
   pub moves-down : Rules movesDown → ⊥
   pub half-moves-down : Rules halfMovesDown → ⊥
   pub moves-past-last : Rules movesPastLast → ⊥
+  pub forward-moved-from : Rules forwardMovedFrom → ⊥
   pub moves-lost : Rules movesLost → ⊥
   pub nothing-moves : Rules nothingMoves → ⊥
   pub from-lent-row : Rules fromLentRow → ⊥
@@ -401,7 +443,10 @@ pub record NoneFigures : Type 0 where
 -- Each is ours on the uneven pool, the deck or the pool that is recovered from, so that the fault of an engine above is the one it is named for.
 pub record Unchanged : Type 0 where
   pub sheet : end (backOn (λ x. x)) wholeRun ≡ end ours wholeRun
-  pub chances : end (backChances (λ x. hazardOf x 0)) wholeRun ≡ end ours wholeRun
+  pub chances : end (backChances hazardOf) wholeRun ≡ end ours wholeRun
+  pub periods : end (backChances (inPeriod (λ x. periodOf (x .starts)))) periodsRun ≡ end ours periodsRun
+  pub forward-periods : forwardRow (λ x q. distributionBy (movesBy half (inPeriod (λ y. periodOf (y .starts))) x) first) .forward
+      (changing .sheet 7) live (replicate 3 5) 3 ≡ ours .forward (changing .sheet 7) live (replicate 3 5) 3
   pub legs : end (backLegs defaultOf premiumOf) wholeRun ≡ end ours wholeRun
   pub losses : end (backLosses lossOf) wholeRun ≡ end ours wholeRun
   pub losses-at-the-top : end (backLosses lossOf) toppedRun ≡ end ours toppedRun

@@ -1,6 +1,12 @@
 -- Which part of the promise rules out each wrong engine. Proved in proofs/Refuted.antt.
 use Prim.Native.Nat.{ℕ}
+use mathlib.Core.Path.{_≡_}
+use mathlib.Core.Bool.{true, false}
 use mathlib.Core.List.{List}
+use Rattle.sheet.specs.Brought.{Brought}
+use Rattle.rows.specs.Rows.{Rows}
+use Rattle.walk.specs.declared.Walk.{Walk}
+use Rattle.walk.specs.RefusalOrders.{issueOrder, withdrawOrder, valueOrder, forwardOrder, isEarly}
 use Rattle.walk.specs.Engine.{Engine}
 use Rattle.walk.specs.CallLists.{State}
 use Rattle.walk.specs.Power.{Event, Forever, Clears}
@@ -9,14 +15,27 @@ use Rattle.wrong.specs.Substitutes.{alwaysLive, issuedAgain, byteLeft, b
 use Rattle.wrong.specs.Substitutes.{exchangedNumbers, withdrawnFirst, notCleared, refusedZeroes, refusedCloses, unissuedTaken, rowsLeft}
 use Rattle.wrong.specs.Substitutes.{oneFigure, rootAtOnce, oneRounding, roundedDown, countBefore, premiumRoundedDown, indexByLoss}
 use Rattle.wrong.specs.Substitutes.{positionMadeUp, stepEarly, zeroRefused, refusedMoves, closedAtRoot, oneAnswer, firstCoupon, netUnsigned}
-use Rattle.wrong.specs.Substitutes.{valueZeroes, withdrawnAnswered, valueZeroAlone, refusedTells, otherLength, zeroAlone, walkAbove}
+use Rattle.wrong.specs.Substitutes.{valueZeroes, withdrawnAnswered, valueZeroAlone, withdrawnUnissued, refusedTells, otherLength, zeroAlone}
 use Rattle.wrong.specs.Substitutes.{upsideDown, signLost, restCut, halfUpwards, paymentLost, flatForScale, ratioAnswered, stepShort, inPlace}
-use Rattle.wrong.specs.Substitutes.{refusedWrites, forwardAnswered}
+use Rattle.wrong.specs.Substitutes.{walkAbove, refusedWrites, forwardAnswered}
 use Rattle.wrong.specs.Checks.{Value, skipping}
 
 -- Value takes entries over their ceilings, and answers by them.
 abbrev pub ceilingsPassed : Engine
 ceilingsPassed = skipping Value 12
+
+-- What is early in the orders of four calls, at any operands: 9, and 25 where a sheet is brought, and not what stands behind 9.
+pub record EarlyNumbers : Type 0 where
+  pub value-25 : (x : Brought) (g : List ℕ) (w : Walk) (l : Rows) (j k : ℕ) → isEarly (valueOrder x g w l j k) 25 ≡ true
+  pub value-9 : (x : Brought) (g : List ℕ) (w : Walk) (l : Rows) (j k : ℕ) → isEarly (valueOrder x g w l j k) 9 ≡ true
+  pub value-10 : (x : Brought) (g : List ℕ) (w : Walk) (l : Rows) (j k : ℕ) → isEarly (valueOrder x g w l j k) 10 ≡ false
+  pub value-11 : (x : Brought) (g : List ℕ) (w : Walk) (l : Rows) (j k : ℕ) → isEarly (valueOrder x g w l j k) 11 ≡ false
+  pub value-14 : (x : Brought) (g : List ℕ) (w : Walk) (l : Rows) (j k : ℕ) → isEarly (valueOrder x g w l j k) 14 ≡ false
+  pub forward-25 : (x : Brought) (g row : List ℕ) (i : ℕ) → isEarly (forwardOrder x g row i) 25 ≡ true
+  pub forward-13 : (x : Brought) (g row : List ℕ) (i : ℕ) → isEarly (forwardOrder x g row i) 13 ≡ false
+  pub withdraw-10 : (g : List ℕ) (y : ℕ) → isEarly (withdrawOrder g y) 10 ≡ false
+  pub issue-17 : (g : List ℕ) (y : ℕ) → isEarly (issueOrder g y) 17 ≡ false
+  pub issue-25 : (g : List ℕ) (y : ℕ) → isEarly (issueOrder g y) 25 ≡ false
 
 -- The power, of every list of events, and what a write clears: two parts of the whole promise (`Keeps`).
 abbrev pub Power : Engine → Type 0
@@ -36,6 +55,7 @@ pub record NoneKeeps : Type 0 where
   pub byte-left-later : Power byteLeft → ⊥
   pub bits-set-later : Power bitsSet → ⊥
   pub zero-alone-later : Power zeroAlone → ⊥
+  pub withdrawn-unissued-later : Power withdrawnUnissued → ⊥
   pub refused-tells-later : Power refusedTells → ⊥
   pub ratio-answered-later : Power ratioAnswered → ⊥
   pub forward-answered-later : Power forwardAnswered → ⊥

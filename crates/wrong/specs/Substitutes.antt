@@ -373,6 +373,10 @@ withdrawnAnswered = valueBy (λ x g w l j k. ours .value x (revived x g) w l j k
 abbrev pub valueZeroAlone : Engine
 valueZeroAlone = valueBy (λ x g w l j k. ours .value x (revivedBut x g) w l j k)
 
+-- A withdrawn number is said to be unissued.
+abbrev pub withdrawnUnissued : Engine
+withdrawnUnissued = valueBy (λ x g w l j k. withSaid (ours .value x g w l j k) (exchanged 9 10 (ours .value x g w l j k .said)))
+
 -- A refused value tells D and A beside its number.
 abbrev pub refusedTells : Engine
 refusedTells =

@@ -8,7 +8,7 @@
 use lavroudem_model::deck::{listing_by, Calls, CALLS, MAX_DECK};
 use lavroudem_model::refusal::Refusal;
 use lavroudem_model::register;
-use lavroudem_model::sheet::Sheet;
+use lavroudem_model::sheet::{Sheet, MAX_PERIODS};
 use lavroudem_model::walk::{row_length, Value, Walk};
 use lavroudem_model::{decks, engine, fast};
 use std::hint::black_box;
@@ -83,37 +83,51 @@ const FAST: Calls = Calls {
 
 type Work = fn(&Side, &mut Desk);
 
+/// What is timed, under its name and on its sheet.
+type Line<'a> = (&'a str, &'a Sheet, Work);
+
 fn main() {
     println!("NAME engine_ms model_ms ratio");
     let full = sheet(125, 3650, 8);
-    let best = compare(
-        &full,
-        &[
-            ("walk_full", walk),
-            ("walk_steps", steps),
-            ("value_1000", values),
-            ("forward_full", forward),
-            ("deck_full", deck),
-        ],
-    );
-    let times = best[1] / best[0];
-    println!("# walk_steps is {times:.2} times walk_full");
+    let periods = in_periods(&full);
+    let lines: [Line; 8] = [
+        ("walk_full", &full, walk),
+        ("walk_steps", &full, steps),
+        ("value_1000", &full, values),
+        ("forward_full", &full, forward),
+        ("deck_full", &full, deck),
+        ("walk_periods", &periods, walk),
+        ("walk_steps_periods", &periods, steps),
+        ("forward_periods", &periods, forward),
+    ];
+    let best = compare(&lines);
+    for (line, other) in [(1, 0), (5, 0), (6, 1), (7, 3)] {
+        let times = best[line] / best[other];
+        println!("# {} is {times:.2} times {}", lines[line].0, lines[other].0);
+    }
     let floor = floor_ms(2 * 3650 * row_length(&full) as u64);
     println!("# five multiplications a row entry of walk_full, alone: {floor:.3} ms");
     println!("# {SHORT_CALLS} calls each");
-    compare(&full, &[("forward_by_0", forward_0), ("back_by_0", back_0)]);
+    compare(&[
+        ("forward_by_0", &full, forward_0),
+        ("back_by_0", &full, back_0),
+    ]);
+    compare_growth();
+}
+
+fn compare_growth() {
     println!("# walk_full by names, steps and tranches");
     for names in [1, 25, 50, 75, 100, 125] {
         let name = format!("names_{names}");
-        compare(&sheet(names, 3650, 8), &[(&name, walk)]);
+        compare(&[(&name, &sheet(names, 3650, 8), walk)]);
     }
     for steps in [365, 730, 1460, 2190, 2920, 3650] {
         let name = format!("steps_{steps}");
-        compare(&sheet(125, steps, 8), &[(&name, walk)]);
+        compare(&[(&name, &sheet(125, steps, 8), walk)]);
     }
     for tranches in 1..=8 {
         let name = format!("tranches_{tranches}");
-        compare(&sheet(125, 3650, tranches), &[(&name, walk)]);
+        compare(&[(&name, &sheet(125, 3650, tranches), walk)]);
     }
 }
 
@@ -135,6 +149,7 @@ fn sheet(names: usize, steps: usize, tranches: usize) -> Sheet {
         tranches,
         recovery: 400_000_000,
         attachments: points[..=tranches].iter().map(|p| p * 1_000_000).collect(),
+        starts: vec![1],
         hazards: (0..names as u64).map(|k| 200_000 + 6_000 * k).collect(),
         discounts: (0..steps as u64)
             .map(|i| 999_900_000 + i % 7 * 10_000)
@@ -143,6 +158,24 @@ fn sheet(names: usize, steps: usize, tranches: usize) -> Sheet {
         coupons: (0..=tranches as u64)
             .map(|j| 5_000_000 - 500_000 * j)
             .collect(),
+    }
+}
+
+/// The same hazards in the most periods there may be, all about as long.
+fn in_periods(sheet: &Sheet) -> Sheet {
+    let start = |period: usize| (1 + period * sheet.steps / MAX_PERIODS) as u64;
+    Sheet {
+        starts: (0..MAX_PERIODS).map(start).collect(),
+        hazards: sheet.hazards.repeat(MAX_PERIODS),
+        ..sheet.clone()
+    }
+}
+
+/// No deck brings several periods.
+fn deck_of(sheet: &Sheet) -> Vec<u8> {
+    match sheet.starts[..] {
+        [_] => decks::of_sheet(sheet),
+        _ => vec![],
     }
 }
 
@@ -168,25 +201,25 @@ fn opened(sheet: &Sheet) -> Desk {
         default_row,
         premium_row,
         row: vec![0; sheet.names + 1],
-        deck: decks::of_sheet(sheet),
+        deck: deck_of(sheet),
         out: vec![0; engine::deck_room(MAX_DECK)],
     }
 }
 
-/// Times both sides of each work, and sees that they leave the same. Prints a
-/// line for each and gives the engine's milliseconds. Works take turns too,
-/// so that they meet the machine at the same speed.
-fn compare(sheet: &Sheet, works: &[(&str, Work)]) -> Vec<f64> {
-    let mut best = vec![(f64::MAX, f64::MAX); works.len()];
+/// Times both sides of each line, and sees that they leave the same. Prints
+/// the lines and gives the engine's milliseconds. Lines take turns too, so
+/// that they meet the machine at the same speed.
+fn compare(lines: &[Line]) -> Vec<f64> {
+    let mut best = vec![(f64::MAX, f64::MAX); lines.len()];
     for _ in 0..RUNS {
-        for (best, &(name, work)) in best.iter_mut().zip(works) {
+        for (best, &(name, sheet, work)) in best.iter_mut().zip(lines) {
             let (engine_ms, engine_desk) = timed(&ENGINE, sheet, work);
             let (model_ms, model_desk) = timed(&RUST, sheet, work);
             assert!(same(&engine_desk, &model_desk), "{name}: results differ");
             *best = (best.0.min(engine_ms), best.1.min(model_ms));
         }
     }
-    for ((engine, model), (name, _)) in best.iter().zip(works) {
+    for ((engine, model), (name, _, _)) in best.iter().zip(lines) {
         println!("{name} {engine:.3} {model:.3} {:.2}", engine / model);
     }
     best.iter().map(|&(engine, _)| engine).collect()

@@ -3,7 +3,7 @@
 
 use super::desk::Call::{self, Back, Forward, Open, Ratio, Value};
 use super::desk::Desk;
-use super::{plain_sheet, B};
+use super::{plain_sheet, set_starts, B};
 use lavroudem_model::deck::CALLS;
 use lavroudem_model::refusal::Refusal;
 use lavroudem_model::sheet::Sheet;
@@ -93,7 +93,20 @@ fn ten_years() -> Sheet {
     sheet
 }
 
-/// An outside change keeps off what those of other refusals touch, so that
+/// A period more of the base desk's three names, whatever else is wrong.
+fn add_period(sheet: &mut Sheet, start: u64) {
+    sheet.starts.push(start);
+    sheet.hazards.extend([0; 3]);
+}
+
+/// The most periods, on so many steps that one more would fit.
+fn most_periods() -> Sheet {
+    let mut sheet = plain_sheet(3, 17, 2);
+    set_starts(&mut sheet, &Vec::from_iter(1..=16));
+    sheet
+}
+
+/// In the order of the checks. An outside change keeps off what those of other refusals touch, so that
 /// several can be made to one desk. An added figure is a good one. The places
 /// in the rows are at count 3, which no jump at count 0 looks at; in a row of
 /// the base desk the step is 4.
@@ -114,6 +127,8 @@ pub fn edges() -> Vec<Edge> {
         Length       ALL:       as_it_is(d),                              d.sheet.attachments.push(B);
         Length       ALL:       as_it_is(d),                              d.sheet.hazards.pop();
         Length       ALL:       as_it_is(d),                              d.sheet.hazards.push(0);
+        Length       ALL:       with(d, |s| add_period(s, 2)),            d.sheet.starts.push(2);
+        Length       ALL:       with(d, |s| add_period(s, 3)),            d.sheet.hazards.extend([0; 3]);
         Length       ALL:       as_it_is(d),                              d.sheet.discounts.pop();
         Length       ALL:       as_it_is(d),                              d.sheet.discounts.push(B);
         Length       ALL:       as_it_is(d),                              d.sheet.accruals.pop();
@@ -133,7 +148,14 @@ pub fn edges() -> Vec<Edge> {
         Recovery     ALL:       as_it_is(d),                              d.sheet.recovery = u64::MAX;
         Attachments  ALL:       with(d, |s| s.attachments[1] = 1),        d.sheet.attachments[1] = 0;
         Attachments  ALL:       with(d, |s| s.attachments[2] = B),        *last(&mut d.sheet.attachments) = B + 1;
+        Periods      ALL:       as_it_is(d),                              d.sheet.starts[0] = 0;
+        Periods      ALL:       as_it_is(d),                              d.sheet.starts[0] = 2;
+        Periods      ALL:       as_it_is(d),                              d.sheet.starts[0] = u64::MAX;
+        Periods      ALL:       with(d, |s| add_period(s, 2)),            add_period(&mut d.sheet, 1);
+        Periods      ALL:       with(d, |s| add_period(s, 3)),            add_period(&mut d.sheet, 4);
+        Periods      ALL:       with(d, |s| set_starts(s, &[1, 2, 3])),   { add_period(&mut d.sheet, 3); add_period(&mut d.sheet, 2) };
         Hazard       ALL:       with(d, |s| s.hazards[0] = B),            d.sheet.hazards[0] = B + 1;
+        Hazard       ALL:       with(d, |s| add_period(s, 3)),            { add_period(&mut d.sheet, 3); *last(&mut d.sheet.hazards) = B + 1 };
         Hazard       ALL:       with(d, |s| s.hazards[2] = B),            *last(&mut d.sheet.hazards) = u64::MAX;
         Discount     ALL:       with(d, |s| s.discounts[2] = 1),          *last(&mut d.sheet.discounts) = 0;
         Discount     ALL:       with(d, |s| s.discounts[0] = B),          d.sheet.discounts[0] = B + 1;
@@ -175,6 +197,9 @@ pub fn edges() -> Vec<Edge> {
 pub fn lone_edges() -> Vec<Edge> {
     edges! { |d|
         Length       ALL:       as_it_is(d),                              d.sheet.attachments.clear();
+        Length       ALL:       as_it_is(d),                              d.sheet.starts.clear();
+        Length       ALL:       as_it_is(d),                              set_starts(&mut d.sheet, &[]);
+        Length       ALL:       restart(d, most_periods()),               { restart(d, most_periods()); add_period(&mut d.sheet, 17) };
         Length       ALL:       as_it_is(d),                              d.sheet.hazards.clear();
         Length       ALL:       as_it_is(d),                              d.sheet.discounts.clear();
         Length       ALL:       as_it_is(d),                              d.sheet.accruals.clear();

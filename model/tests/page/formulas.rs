@@ -44,6 +44,7 @@ impl Scene<'_> {
         let number = match places?.as_slice() {
             [] => self.letter(name)?,
             &[place] => self.at(name, place)?,
+            &[step, count] if name == "p" => self.chance(step, count)?,
             &[step, count] if step == self.position => self.leg(name, count)?,
             _ => return None,
         };
@@ -85,12 +86,18 @@ impl Scene<'_> {
             "M" => tranche_loss(sheet, tranche, place),
             "T" => tranche_recovery(sheet, tranche, place),
             "O" => outstanding(sheet, tranche, place),
-            "p" if place <= sheet.names => sheet.hazard(place),
             "v" if is_step => sheet.discount(place),
             "a" if is_step => sheet.accrual(place),
             _ => return None,
         };
         Some(number as i128)
+    }
+
+    /// p into a step.
+    fn chance(&self, step: usize, count: usize) -> Option<i128> {
+        let sheet = self.sheet;
+        let on_tree = (1..=sheet.steps).contains(&step) && count <= sheet.names;
+        on_tree.then(|| sheet.hazard(step, count) as i128)
     }
 
     fn leg(&self, name: &str, count: usize) -> Option<i128> {
@@ -127,6 +134,7 @@ fn everywhere(check: &dyn Fn(Scene) -> Found) -> Found {
     let sizes = [(1, 1, 1), (2, 5, 1), (3, 4, 2), (4, 3, 3)];
     let mut sheets = sizes.map(|(n, m, r)| random.sheet(n, m, r)).to_vec();
     sheets.extend(losses_beside_points());
+    sheets.push(worked::two_periods());
     for sheet in sheets {
         let (names, steps, tranches) = (sheet.names, sheet.steps, sheet.tranches);
         for position in 0..=steps {
@@ -250,6 +258,24 @@ pub fn leg_formulas_are_the_models(page: &str) -> Found {
     Ok(())
 }
 
+/// Where the hazard of a move stands in the list. The period of a step is the
+/// last that has started.
+pub fn hazard_formula_is_the_models(page: &str) -> Found {
+    let start = "In period j, counted from 0, it is the entry ";
+    let entry = between(page, start, " of the list, counted from 0.")?;
+    everywhere(&|mut scene| {
+        let (sheet, step, count) = (scene.sheet, scene.step, scene.count);
+        if step == 0 || count == sheet.names {
+            return Ok(());
+        }
+        let later = |&&start: &&u64| start > step as u64;
+        let period = sheet.starts.len() - 1 - sheet.starts.iter().filter(later).count();
+        scene.letters = vec![("j", period as i128)];
+        let found = sheet.hazards.get(scene.work_out(entry)? as usize).copied();
+        same(found, Some(sheet.hazard(step, count) as u64), "p(s, k)")
+    })
+}
+
 pub fn figure_formulas_are_the_models(page: &str) -> Found {
     let (net, _) = formula(page, "W")?;
     let (leap, _) = formula(page, "J")?;
@@ -338,12 +364,13 @@ pub fn forward_formula_is_the_models(page: &str) -> Found {
         return Err("the rule of forward is not found".into());
     };
     same(start, "at step 0: Q(0) = B, all others 0", "start")?;
-    let rest = step.strip_prefix("in each step, for every k below n: ");
+    let rest = step.strip_prefix("in each step s, for every k below n: ");
     let moved = rest.and_then(|rest| rest.strip_suffix(" moves from Q(k) to Q(k + 1)"));
     let moved = moved.ok_or("another step")?;
     let mut random = Random::new(15);
     let sheets = [
         worked::sheet(),
+        worked::two_periods(),
         random.sheet(4, 6, 1),
         random.sheet(3, 9, 1),
     ];
@@ -358,7 +385,7 @@ fn moves_are_the_models(sheet: &Sheet, moved: &str) -> Found {
     for done in 1..=sheet.steps {
         let old = row.clone();
         for k in 0..sheet.names {
-            let size = forward_move(sheet, moved, k, &old)?;
+            let size = forward_move(sheet, moved, (done, k), &old)?;
             row[k] -= size;
             row[k + 1] += size;
         }
@@ -369,13 +396,21 @@ fn moves_are_the_models(sheet: &Sheet, moved: &str) -> Found {
     Ok(())
 }
 
-fn forward_move(sheet: &Sheet, text: &str, k: usize, row: &[i128]) -> Result<i128, String> {
+fn forward_move(
+    sheet: &Sheet,
+    text: &str,
+    (s, k): (usize, usize),
+    row: &[i128],
+) -> Result<i128, String> {
     let names = |name: &str, places: &[Ratio]| {
-        let place = || usize::try_from(places[0].as_whole()?).ok();
+        let place = |at: usize| usize::try_from(places[at].as_whole()?).ok();
         let number = match (name, places.len()) {
+            ("s", 0) => s as i128,
             ("k", 0) => k as i128,
-            ("Q", 1) => *row.get(place()?)?,
-            ("p", 1) => i128::from(*sheet.hazards.get(place()?)?),
+            ("Q", 1) => *row.get(place(0)?)?,
+            ("p", 2) if (1..=sheet.steps).contains(&place(0)?) && place(1)? <= sheet.names => {
+                sheet.hazard(place(0)?, place(1)?) as i128
+            }
             _ => return None,
         };
         Some(Ratio::whole(number))

@@ -2,7 +2,7 @@
 
 use super::{between, cells, named, same, says, size, table, whole, Found};
 use crate::arithmetic::{work_out, Ratio};
-use crate::common::plain_sheet;
+use crate::common::{plain_sheet, set_starts};
 use lavroudem_model::commands::{encode, COMMANDS, CUT, OPEN, POOL};
 use lavroudem_model::deck::{listing, MAX_DECK};
 use lavroudem_model::refusal::Refusal;
@@ -36,14 +36,15 @@ fn with(change: impl FnOnce(&mut Sheet)) -> Sheet {
 }
 
 pub fn limits_of_a_sheet_are_the_models(page: &str) -> Found {
-    let figures: [(&str, &dyn Fn(u64) -> Sheet); 4] = [
+    let figures: [(&str, &dyn Fn(u64) -> Sheet); 5] = [
         ("names", &|value| plain_sheet(value as usize, 4, 2)),
         ("steps", &|value| plain_sheet(3, value as usize, 2)),
         ("tranches", &|value| plain_sheet(3, 4, value as usize)),
+        ("periods", &by_periods),
         ("recovery", &|value| with(|sheet| sheet.recovery = value)),
     ];
     let rows = table(page, "| Figure | Sign | Least |")?;
-    same(rows.len(), 5, "figures")?;
+    same(rows.len(), 6, "figures")?;
     for (row, (figure, change)) in rows.iter().zip(figures) {
         let [name, _, least, most, refusal] = cells(row)?;
         same(name, figure, "a figure")?;
@@ -52,20 +53,33 @@ pub fn limits_of_a_sheet_are_the_models(page: &str) -> Found {
     }
     let bytes = [u8::MIN, u8::MAX].map(|byte| byte.to_string());
     same(
-        rows[4].join("|"),
+        rows[5].join("|"),
         format!("number||{}|{}|", bytes[0], bytes[1]),
         "number",
     )?;
     limits_of_lists(page)
 }
 
+/// So many periods of a step each, but for the last.
+fn by_periods(periods: u64) -> Sheet {
+    let mut sheet = plain_sheet(3, 17, 2);
+    set_starts(&mut sheet, &Vec::from_iter(1..=periods));
+    sheet
+}
+
 /// A list's name, its length in a sheet, and a sheet with this entry in it.
 type List<'a> = (&'a str, fn(&Sheet) -> usize, &'a dyn Fn(u64) -> Sheet);
 
 fn limits_of_lists(page: &str) -> Found {
-    let lists: [List; 5] = [
+    let lists: [List; 6] = [
         ("attachments", |sheet| sheet.attachments.len(), &|value| {
             with(|sheet| sheet.attachments[if value < 2 { 0 } else { 2 }] = value)
+        }),
+        ("starts", |sheet| sheet.starts.len(), &|value| {
+            with(|sheet| match value {
+                0 | 1 => sheet.starts[0] = value,
+                _ => set_starts(sheet, &[1, value]),
+            })
         }),
         ("hazards", |sheet| sheet.hazards.len(), &|value| {
             with(|sheet| sheet.hazards[1] = value)
@@ -86,8 +100,11 @@ fn limits_of_lists(page: &str) -> Found {
         let [name, _, entries, least, most, refusal] = cells(row)?;
         same(name, list, "a list")?;
         let refusal = named(refusal.trim_matches('`'))?.number();
-        both_sides(whole(least)?, whole(most)?, refusal, change)?;
-        let sheet = plain_sheet(3, 4, 2);
+        let mut sheet = plain_sheet(3, 4, 2);
+        let most = work_out(most, &|name, _| size(&sheet, name)).and_then(Ratio::as_whole);
+        let most = most.ok_or(format!("no limit of {list}"))?;
+        both_sides(whole(least)?, most, refusal, change)?;
+        set_starts(&mut sheet, &[1, 4]);
         let found = work_out(entries, &|name, _| size(&sheet, name));
         same(found, Some(Ratio::whole(length(&sheet) as i128)), list)?;
     }

@@ -102,18 +102,19 @@ pub fn named(span: &str) -> Result<Refusal, String> {
     found.ok_or(format!("no refusal {span}"))
 }
 
-/// n, m and r.
+/// n, m, r and u.
 pub fn size(sheet: &Sheet, name: &str) -> Option<Ratio> {
     let number = match name {
         "n" => sheet.names,
         "m" => sheet.steps,
         "r" => sheet.tranches,
+        "u" => sheet.starts.len(),
         _ => return None,
     };
     Some(Ratio::whole(number as i128))
 }
 
-/// The commands that enter a sheet.
+/// The commands that enter a sheet of one period.
 pub fn entries(sheet: &Sheet) -> Vec<u8> {
     let [names, steps, tranches] = [sheet.names, sheet.steps, sheet.tranches].map(|n| n as u64);
     let mut deck = encode(

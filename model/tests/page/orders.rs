@@ -151,7 +151,10 @@ pub fn orders_are_the_models(page: &str) -> Found {
         in_order(name, &order, &|numbers| refused(call, numbers))?;
     }
     same(rows[7][0], "forward in a deck", "a call")?;
-    let in_a_deck: Vec<u8> = faults(Call::Forward).into_keys().chain([14]).collect();
+    let of_a_call = faults(Call::Forward).into_keys();
+    // A deck has no other starts than the one.
+    let of_a_deck = of_a_call.filter(|&number| number != Refusal::Periods.number());
+    let in_a_deck: Vec<u8> = of_a_deck.chain([14]).collect();
     same(order(&rows[7])?, in_a_deck, rows[7][0])?;
     in_order(rows[7][0], &order(&rows[7])?, &refused_in_a_deck)?;
     same(

@@ -25,6 +25,7 @@ fn three_names() -> Sheet {
         tranches: 1,
         recovery: 500_000_000,
         attachments: vec![100_000_000, 300_000_000],
+        starts: vec![1],
         hazards: vec![100_000_000, 200_000_000, 400_000_000],
         discounts: vec![950_000_000],
         accruals: vec![250_000_000],
@@ -52,6 +53,11 @@ const ON_THE_WHOLE_POOL: &str =
     "L(1); Z(1); T(1) of tranche 2; O(1) of tranche 2; T(1) of tranche 1; \
     O(1) of tranche 1; O(1) of tranche 0; O(1) of the index";
 
+const ON_TWO_PERIODS: &str = "p(1, 0); p(2, 0); p(3, 0); p(2, 1); p(3, 1); L(1); \
+    Y; D(2, 0) of the index; Y; D(2, 1) of the index; Y; D(1, 0) of the index; Y; D(1, 1) of the index; \
+    Y; D(0, 0) of the index; Y; D(0, 1) of the index; Q(2, 0); Q(2, 1); Q(2, 2); Q(3, 0); Q(3, 1); Q(3, 2); \
+    exact D(0, 0) of the index; exact A(0, 0) of the index; A(0, 0) of the index";
+
 const ON_THREE_NAMES: &str = "L(1); L(2); M(1) of tranche 0; M(2) of tranche 0; O(1) of tranche 0; \
     Z(1); O(1) of the index; Y; D(0, 0) of the index; exact D(0, 0) of the index; P(1, 0) of tranche 0; \
     P(1, 1) of tranche 0; Y; A(0, 0) of tranche 0; exact A(0, 0) of tranche 0; Y; D(0, 0) of tranche 0; \
@@ -75,6 +81,11 @@ pub fn worked_arithmetic_is_right(page: &str) -> Found {
             "### Tranches of the whole pool: recoveries off the top",
             whole_pool(),
             ON_THE_WHOLE_POOL,
+        ),
+        (
+            "### Two periods: the hazard of the step ahead",
+            worked::two_periods(),
+            ON_TWO_PERIODS,
         ),
     ];
     for (heading, sheet, figures) in parts {
@@ -214,6 +225,7 @@ pub fn figure(sheet: &Sheet, name: &str, (i, j, k): (usize, usize, usize)) -> Op
         "J" if k < sheet.names => jump(sheet, &rows(), j, k),
         "ratio" if k < sheet.names => hedge_ratio(sheet, &rows(), j, k).ok()?,
         "Q" => distribution(sheet, i)[k] as i128,
+        "p" if i > 0 => sheet.hazard(i, k) as i128,
         _ => return None,
     };
     Some(figure)
@@ -281,6 +293,22 @@ pub fn whole_pool_is_described(page: &str) -> Found {
     let recovery = commas(sheet.recovery.into());
     let said = format!("Three names, recovery {recovery}, tranches of {points}: the whole pool.");
     says(page, &said)
+}
+
+pub fn two_periods_are_described(page: &str) -> Found {
+    let sheet = worked::two_periods();
+    let tranche = list(&sheet.attachments, " to ");
+    let starts = list(&sheet.starts, ", ");
+    let (first, second) = sheet.hazards.split_at(sheet.names);
+    let [first, second] = [first, second].map(|period| list(period, ", "));
+    let recovery = sheet.recovery;
+    let date = sheet.steps;
+    let said = [
+        format!("Two names, three steps, recovery {recovery}, one tranche of {tranche}."),
+        format!("Starts {starts}; hazards {first} in the first period and {second} in the second."),
+        format!("All discounts are one, and only step {date} is a premium date, for a year."),
+    ];
+    said.iter().try_for_each(|said| says(page, said))
 }
 
 /// Each line of the page's deck has the offset, the bytes and the command.

@@ -1,36 +1,38 @@
 -- The loop's invariant: the rows are `done` steps back, and the lists and tables are those of the sheet.
 use borrow.Author.Needs.{needs}
-use Prim.Native.Nat.{ℕ, _+_, _-_, _<_}
+use Prim.Native.Nat.{ℕ, _+_, _-_, _≤_, _<_}
 use mathlib.Core.List.{List}
 use mathlib.Core.Path.{_≡_, refl, sym, ap, subst}
 use native.Mathlib.Omega.{arith}
-use lib.ListN.{length}
+use lib.ListN.{length, take, drop}
+use Rattle.sheet.specs.Periods.{hazardsAt}
+use Rattle.sheet.proofs.Periods.{hazards-part}
 use Rattle.sheet.specs.Spans.{termsIn}
 use Rattle.sheet.specs.Limits.{TranchesWithin}
 use Rattle.sheet.specs.Terms.{bare}
 use Rattle.sheet.proofs.Limits.{tranches-bare}
-use Rattle.backward.proofs.BetweenSteps.{StepsDone, steps-none, steps-more, discount-there, accrual-there, accrual-low, roll-fits, left-long, left-low, premium-low, accrued-fits, defaults-kept, premiums-kept, defaults-end, premiums-end}
+use Rattle.backward.proofs.BetweenSteps.{StepsDone, steps-none, steps-more, discount-there, accrual-there, accrual-low, starts-there, hazards-within, roll-fits, left-long, left-low, premium-low, accrued-fits, defaults-kept, premiums-kept, defaults-end, premiums-end}
 use Rattle.backward.proofs.walk_with_tables.Statement.{statement}
 use Rattle.backward.proofs.walk_with_tables.Tie as tie
 
 abbrev Inv-loop : tie.InvT-loop
-Inv-loop sheet numbers defaults₀ premiums₀ position count paid left none hazards discounts accruals done₀ defaults premiums done =
-    StepsDone (termsIn sheet numbers) defaults₀ premiums₀ position count hazards discounts accruals paid left none defaults premiums done
+Inv-loop sheet numbers defaults₀ premiums₀ position count paid left none starts hazards discounts accruals done₀ defaults premiums done =
+    StepsDone (termsIn sheet numbers) defaults₀ premiums₀ position count starts hazards discounts accruals paid left none defaults premiums done
 
 abbrev μ-loop : tie.MeasureT-loop
-μ-loop sheet numbers defaults₀ premiums₀ position count paid left none hazards discounts accruals done₀ defaults premiums done = count - done
+μ-loop sheet numbers defaults₀ premiums₀ position count paid left none starts hazards discounts accruals done₀ defaults premiums done = count - done
 
 -- ---- places: the start and the first part, seen where the four parts are taken; those, seen where both tables are filled;
 -- a turn of the loop, seen where it rolls the first row; the row rolled, seen where the premiums accrue; those accrued, seen where they are rolled
 
 abbrev Parts : Type 0
-Parts = tie.After-part4 Inv-loop μ-loop
+Parts = tie.After-part5 Inv-loop μ-loop
 
 abbrev start : Parts → tie.Start Inv-loop μ-loop
-start p = p .before .before .before .before .before .before .before .before .before .before .before
+start p = p .before .before .before .before .before .before .before .before .before .before .before .before
 
 abbrev with-attachments : Parts → tie.After-part Inv-loop μ-loop
-with-attachments p = p .before .before .before
+with-attachments p = p .before .before .before .before
 
 abbrev parts : tie.After-slice-known6 Inv-loop μ-loop → Parts
 parts f = f .before .before .before .before .before .before .before .before
@@ -38,14 +40,17 @@ parts f = f .before .before .before .before .before .before .before .before
 abbrev InLoop : Type 0
 InLoop = tie.In-loop Inv-loop μ-loop
 
-abbrev turn : tie.After-roll-all-arg2 Inv-loop μ-loop → InLoop
-turn r = r .before .before .before .before
+abbrev turn : tie.After-hazards-from Inv-loop μ-loop → InLoop
+turn h = h .before .before .before
+
+abbrev lent : tie.After-roll-all-arg3 Inv-loop μ-loop → tie.After-hazards-from Inv-loop μ-loop
+lent r = r .before .before .before
 
 abbrev rolled : tie.After-accrue-arg2 Inv-loop μ-loop → tie.After-roll-all Inv-loop μ-loop
 rolled a = a .before .before .before .before
 
-abbrev accrued : tie.After-roll-all-arg3 Inv-loop μ-loop → tie.After-accrue Inv-loop μ-loop
-accrued r = r .before .before .before
+abbrev accrued : tie.After-roll-all-arg5 Inv-loop μ-loop → tie.After-accrue Inv-loop μ-loop
+accrued r = r .before .before .before .before
 
 -- the step that the loop leads to
 abbrev to : InLoop → ℕ
@@ -65,11 +70,14 @@ part-requires-3 c κs = search needs
 part-requires-4 : tie.Need-part-requires-4 Inv-loop μ-loop
 part-requires-4 c κs = search needs
 
+part-requires-5 : tie.Need-part-requires-5 Inv-loop μ-loop
+part-requires-5 c κs = search needs
+
 fits : (p : Parts) → TranchesWithin (bare (start p .args .sheet .pool) (with-attachments p .part .result .now))
 fits p =
     let s = start p in
     subst (λ (l : List ℕ). TranchesWithin (bare (s .args .sheet .pool) l)) (sym (with-attachments p .part .ensures))
-    (tranches-bare (s .args .sheet .pool) _ _ _ _ (s .pre .0 .limits .tranches))
+    (tranches-bare (s .args .sheet .pool) _ _ _ _ _ (s .pre .0 .limits .tranches))
 
 payments-requires : tie.Need-payments-requires Inv-loop μ-loop
 payments-requires c κs = let p = c .before in (fits p, start p .pre .1 .0)
@@ -78,14 +86,15 @@ outstandings-due-requires : tie.Need-outstandings-due-requires Inv-loop μ-loop
 outstandings-due-requires c κs =
     let p = c .before .before .before .before .before in
     let s = start p in
-    let e : length (p .part4 .result .now) ≡ length (termsIn (s .args .sheet) (s .args .numbers .now) .accruals) = ap length (p .part4 .ensures) in
+    let e : length (p .part5 .result .now) ≡ length (termsIn (s .args .sheet) (s .args .numbers .now) .accruals) = ap length (p .part5 .ensures) in
     ((fits p, s .pre .1 .1 .0 .0), (omega (arith, s .pre .0 .position-most, s .pre .0 .limits .curves .accruals), s .pre .0 .count-most))
 
 loop-holds : tie.Need-loop-holds Inv-loop μ-loop
 loop-holds c =
     let p = parts c in
     let s = start p in
-    steps-none (s .args .sheet .pool) _ _ _ _ _ _ _ _ (with-attachments p .part .ensures) (p .before .before .part2 .ensures) (p .before .part3 .ensures) (p .part4 .ensures)
+    steps-none (s .args .sheet .pool) _ _ _ _ _ _ _ _ _ _
+    (with-attachments p .part .ensures) (p .before .before .before .part2 .ensures) (p .before .before .part3 .ensures) (p .before .part4 .ensures) (p .part5 .ensures)
     _ _ _ _ _ _ _ _ (s .pre .0) (c .before .before .before .before .before .before .payments .ensures) (c .before .before .outstandings-due .ensures)
     (s .pre .1 .1 .0 .0) (s .pre .1 .1 .0 .1) (s .pre .1 .1 .1 .0) (s .pre .1 .1 .1 .1)
 
@@ -95,10 +104,10 @@ add-done c = omega (arith, c .before .loop .inv .ready .count-most)
 sub-i : tie.Need-sub-i Inv-loop μ-loop
 sub-i c = omega (arith, c .before .loop .inv .ready .count-most)
 
-discount-within : (c : InLoop) → to c < length (parts (c .before .before) .before .part3 .result .now)
+discount-within : (c : InLoop) → to c < length (parts (c .before .before) .before .part4 .result .now)
 discount-within c = discount-there (c .before .loop .inv) (to c) refl (c .loop-test .taken)
 
-accrual-within : (c : InLoop) → to c < length (parts (c .before .before) .part4 .result .now)
+accrual-within : (c : InLoop) → to c < length (parts (c .before .before) .part5 .result .now)
 accrual-within c = accrual-there (c .before .loop .inv) (to c) refl (c .loop-test .taken)
 
 mul-discount : tie.Need-mul-discount Inv-loop μ-loop
@@ -113,22 +122,79 @@ mul-accrual c = omega (arith, accrual-within (c .before))
 shared-slice-read-accrual : tie.Need-shared-slice-read-accrual Inv-loop μ-loop
 shared-slice-read-accrual c = accrual-within (c .before .before)
 
+-- the hazards of the step's period
+module _ (h : tie.After-hazards-from Inv-loop μ-loop) where
+  abbrev i : InLoop
+  i = turn h
+
+  abbrev names : ℕ
+  names = start (parts (i .before .before)) .args .sheet .pool .names
+
+  abbrev into : List ℕ
+  into = take (h .hazards-from .result + names - h .hazards-from .result) (drop (h .hazards-from .result) (parts (i .before .before) .before .before .part3 .result .now))
+
+  into-is : into ≡ hazardsAt names (parts (i .before .before) .before .before .before .part2 .result .now) (parts (i .before .before) .before .before .part3 .result .now) (to i + 1)
+  into-is = hazards-part names _ _ (to i + 1) (h .hazards-from .result) _ (h .hazards-from .ensures) refl
+
+  from-there : h .hazards-from .result + names ≤ length (parts (i .before .before) .before .before .part3 .result .now)
+  from-there = hazards-within (i .before .loop .inv) (to i) refl (i .loop-test .taken) (h .hazards-from .result) (h .hazards-from .ensures)
+
+add-hazards-from : tie.Need-add-hazards-from Inv-loop μ-loop
+add-hazards-from c = let i = c .before .before in omega (arith, i .before .loop .inv .ready .count-most, i .loop-test .taken)
+
+hazards-from-requires : tie.Need-hazards-from-requires Inv-loop μ-loop
+hazards-from-requires c κs =
+    let i = c .before .before in
+    (i .before .loop .inv .ready .limits .tranches .pool .names .1, starts-there (i .before .loop .inv) (to i) refl (i .loop-test .taken) .1)
+
+add-e : tie.Need-add-e Inv-loop μ-loop
+add-e c = omega (arith, from-there c)
+
+mul-roll-all : tie.Need-mul-roll-all Inv-loop μ-loop
+mul-roll-all c = omega (arith, from-there c)
+
+sub-roll-all : tie.Need-sub-roll-all Inv-loop μ-loop
+sub-roll-all c = omega arith
+
+part-roll-all-start : tie.Need-part-roll-all-start Inv-loop μ-loop
+part-roll-all-start c = omega arith
+
+part-roll-all-end : tie.Need-part-roll-all-end Inv-loop μ-loop
+part-roll-all-end c = from-there c
+
 roll-all-requires : tie.Need-roll-all-requires Inv-loop μ-loop
-roll-all-requires c κs = let i = turn c in roll-fits (i .before .loop .inv) (to i) refl (i .loop-test .taken)
+roll-all-requires c κs = let h = lent c in let i = turn h in roll-fits (i .before .loop .inv) (to i) refl (i .loop-test .taken) _ (into-is h)
 
 accrue-requires : tie.Need-accrue-requires Inv-loop μ-loop
 accrue-requires c κs =
-    let i = turn (rolled c .before) in
+    let i = turn (lent (rolled c .before)) in
     let g = i .before .loop .inv in (
       (accrual-low g (to i) refl (i .loop-test .taken), left-long g (to i) refl (i .loop-test .taken)),
       (left-low g (to i) refl (i .loop-test .taken), premium-low g (to i) refl (i .loop-test .taken)),
     )
 
+-- seen where the second row is to be rolled
+abbrev looked : tie.After-slice-known8 Inv-loop μ-loop → tie.After-hazards-from Inv-loop μ-loop
+looked c = lent (rolled (c .before .before .before) .before)
+
+mul-roll-all-2 : tie.Need-mul-roll-all-2 Inv-loop μ-loop
+mul-roll-all-2 c = mul-roll-all (looked c)
+
+sub-roll-all-2 : tie.Need-sub-roll-all-2 Inv-loop μ-loop
+sub-roll-all-2 c = omega arith
+
+part-roll-all-start-2 : tie.Need-part-roll-all-start-2 Inv-loop μ-loop
+part-roll-all-start-2 c = omega arith
+
+part-roll-all-end-2 : tie.Need-part-roll-all-end-2 Inv-loop μ-loop
+part-roll-all-end-2 c = from-there (looked c)
+
 roll-all-requires-2 : tie.Need-roll-all-requires-2 Inv-loop μ-loop
 roll-all-requires-2 c κs =
     let a = accrued c in
-    let i = turn (rolled (a .before) .before) in
-    accrued-fits (i .before .loop .inv) (to i) refl (i .loop-test .taken) _ (a .accrue .ensures)
+    let h = lent (rolled (a .before) .before) in
+    let i = turn h in
+    accrued-fits (i .before .loop .inv) (to i) refl (i .loop-test .taken) _ (into-is h) _ (a .accrue .ensures)
 
 loop-less : tie.Need-loop-less Inv-loop μ-loop
 loop-less c = omega arith
@@ -137,8 +203,9 @@ loop-again : tie.Need-loop-again Inv-loop μ-loop
 loop-again c =
     let a = accrued (c .before .before .before) in
     let r = rolled (a .before) in
-    let i = turn (r .before) in
-    steps-more (i .before .loop .inv) (to i) refl (i .loop-test .taken) _ _ _ (r .roll-all .ensures) (a .accrue .ensures) (c .before .before .roll-all2 .ensures)
+    let h = lent (r .before) in
+    let i = turn h in
+    steps-more (i .before .loop .inv) (to i) refl (i .loop-test .taken) _ (into-is h) _ _ _ (r .roll-all .ensures) (a .accrue .ensures) (c .before .before .roll-all2 .ensures)
 
 same-length : tie.Need-same-length Inv-loop μ-loop
 same-length c = defaults-kept (c .before .loop .inv)
@@ -169,6 +236,7 @@ walk-with-tables-spec =
     part-requires-2
     part-requires-3
     part-requires-4
+    part-requires-5
     payments-requires
     outstandings-due-requires
     loop-holds
@@ -178,8 +246,19 @@ walk-with-tables-spec =
     shared-slice-read-discount
     mul-accrual
     shared-slice-read-accrual
+    add-hazards-from
+    hazards-from-requires
+    add-e
+    mul-roll-all
+    sub-roll-all
+    part-roll-all-start
+    part-roll-all-end
     roll-all-requires
     accrue-requires
+    mul-roll-all-2
+    sub-roll-all-2
+    part-roll-all-start-2
+    part-roll-all-end-2
     roll-all-requires-2
     loop-less
     loop-again

@@ -22,7 +22,7 @@ returns : tie.Need-returns
 returns c =
     let a = c .before .before .before .before .before .before .before .before .before .before .before .before .args in
     c .any-over .ensures
-    ∙ soiled-is (a .pool) (a .attachments .now) [] [] (a .accruals .now) (a .defaults .now) (a .premiums .now) (a .position) _ (c .before .before .accruals-after .ensures)
+    ∙ soiled-is (a .pool) (a .attachments .now) [] [] [] (a .accruals .now) (a .defaults .now) (a .premiums .now) (a .position) _ (c .before .before .accruals-after .ensures)
 
 pub soiled-with-losses-spec : {M : Type 1} → statement M
 soiled-with-losses-spec =

@@ -33,7 +33,7 @@ unfolding sheetTests poolBad
 returns c = sym (first-met _ _ _ (sym (c .before .pool-outside .ensures) ∙ c .if1 .taken))
 
 lists-differ-requires : tie.Need-lists-differ-requires
-lists-differ-requires c κs = pool-fine _ .0 (pool-kept c) .tranches .1
+lists-differ-requires c κs = let p = pool-fine _ .0 (pool-kept c) in (p .names .1, p .tranches .1)
 
 returns-2 : tie.Need-returns-2
 unfolding sheetTests

@@ -1,6 +1,6 @@
 -- `deck::run_on` meets its contract.
 use Prim.Native.Nat.{ℕ, _≤_, _<_}
-use mathlib.Core.Path.{_≡_, _∙_}
+use mathlib.Core.Path.{_≡_, refl, _∙_}
 use mathlib.Core.List.{List}
 use native.Mathlib.Omega.{arith}
 use Rattle.listings.proofs.Laws.{oversized, oversized-left, sized, sized-left}
@@ -62,6 +62,9 @@ returns-2 c =
           (oversized-left (s .args .register .now) (s .args .deck .now) long)),
     )
 
+array-write-numbers : tie.Need-array-write-numbers
+array-write-numbers c = search needs
+
 slice-aggregate-interpret : tie.Need-slice-aggregate-interpret
 slice-aggregate-interpret c = search needs
 
@@ -79,7 +82,7 @@ interpret-requires c κs =
     let e = past-tests c in
     let s = start (e .before .before) in
     let room = room-sized (length (s .args .deck .now)) (omega (arith, e .if2 .left)) in
-    (search needs, (search needs, omega (arith, e .before .if1 .left, e .before .before .room .ensures, room)))
+    ((search needs, refl), (search needs, omega (arith, e .before .if1 .left, e .before .before .room .ensures, room)))
 
 same-length-2 : tie.Need-same-length-2
 same-length-2 c = search needs
@@ -110,6 +113,7 @@ run-on-spec =
     put-deck-requires
     same-length
     returns-2
+    array-write-numbers
     slice-aggregate-interpret
     slice-aggregate-interpret-2
     slice-aggregate-interpret-3

@@ -111,7 +111,7 @@ right c =
     let a = start i .args in
     c .half .ensures
     ∙ ap (λ x. half (x * getD (a .hazards .now) (next i) 0)) (i .before .loop .inv .1 .below (next i) (omega arith))
-    ∙ sym (moves-is (a .hazards .now) (a .row .now) (next i) (omega arith))
+    ∙ sym (moves-is (a .hazards .now) (a .row .now) (next i))
 
 loop-again : tie.Need-loop-again Inv-loop μ-loop
 loop-again c =

@@ -1,14 +1,14 @@
 -- By the checks 1 to 10, then by the steps; the row is then the distribution.
 use borrow.Author.Needs.{needs}
-use mathlib.Core.Path.{_≡_, sym, ap, _∙_}
-use native.Mathlib.Omega.{arith}
-use lib.ListN.{length}
+use mathlib.Core.Path.{_≡_, sym, _∙_}
 use mathlib.Core.Bool.{false}
 use mathlib.Core.List.{List, []}
 use Prim.Native.Nat.{ℕ}
 use Rattle.forward.proofs.Alike.{hazards-enough}
 use Rattle.sheet.specs.Brought.{Brought}
 use Rattle.sheet.specs.Spans.{broughtIn}
+use Rattle.sheet.specs.Limits.{Limits}
+use Rattle.forward.specs.Steps.{HazardsFit}
 use Rattle.refusals.specs.declared.Found.the-variants.{Fine}
 use Rattle.refusals.specs.Tests.{first, poolBad}
 use Rattle.sheet.proofs.Limits.{hazard-most, limits-terms}
@@ -30,11 +30,21 @@ abbrev start : tie.After-to-ten → tie.Start
 start p = p .before .before .before .before .before .before
 
 told : (p : tie.After-to-ten) → poolBad (sheet (start p) .sheet) ≡ false → p .before .row-differs .result ≡ rowBad (sheet (start p)) (start p .args .register .now) (start p .args .row .now)
-told p = row-told _ _ _ _ _ _ _ _ (p .before .row-differs .ensures)
+told p = row-told _ _ _ _ _ _ _ _ _ (p .before .row-differs .ensures)
 
 -- an outcome that is ours keeps the rule of ours
 gives : (x : Brought) (g q : List ℕ) (i : ℕ) {o : ForwardOutcome} → o ≡ forwardCall x g q i → (o ≡ forwardCall x g q i) × ForwardRule x g q i (forwardResult o)
 gives x g q i e = (e, rw e (forwards x g q i))
+
+-- the hazards of a sheet within limits
+hazards-fit : (x : Brought) → Limits x → HazardsFit (x .sheet .names) (x .sheet .starts) (x .sheet .hazards)
+hazards-fit x m =
+    record {
+      names-most = m .pool .names .1;
+      starts-fit = m .lists .1 .starts;
+      long = m .lists .1 .hazards;
+      most = hazard-most (x .sheet) (limits-terms x m);
+    }
 
 row-differs-requires : tie.Need-row-differs-requires
 row-differs-requires c κs = search needs
@@ -73,15 +83,17 @@ returns-2 c =
 part-requires : tie.Need-part-requires
 part-requires c κs = search needs
 
+part-requires-2 : tie.Need-part-requires-2
+part-requires-2 c κs = search needs
+
 distribute-requires : tie.Need-distribute-requires
 distribute-requires c κs =
     let h = c .before in
-    let i = h .before in
+    let i = h .before .before in
     let t = i .before .before in
     let s = start (t .before .before) in
     let o = forwarding (sheet s) (s .args .register .now) (s .args .row .now) _ (told (t .before .before)) (s .args .steps) (ten t) (i .if1 .left) in
-    let e : length (h .part .result .now) ≡ length (sheet s .sheet .hazards) = ap length (h .part .ensures) in
-    (omega (arith, o .lent .row, o .limits .lists .1 .hazards), λ k. rw (h .part .ensures) (hazard-most (sheet s .sheet) (limits-terms (sheet s) (o .limits)) k))
+    (o .lent .row, rw (h .before .part .ensures, h .part2 .ensures) (hazards-fit (sheet s) (o .limits)))
 
 same-length-3 : tie.Need-same-length-3
 same-length-3 c = search needs
@@ -90,13 +102,12 @@ returns-3 : tie.Need-returns-3
 returns-3 c =
     let b = c .before .before in
     let h = b .before .before in
-    let i = h .before in
+    let i = h .before .before in
     let t = i .before .before in
     let s = start (t .before .before) in
-    let o = forwarding (sheet s) (s .args .register .now) (s .args .row .now) _ (told (t .before .before)) (s .args .steps) (ten t) (i .if1 .left) in
     gives _ _ _ _
     (forward-done (sheet s) (s .args .register .now) (s .args .row .now) _ (told (t .before .before)) (s .args .steps) (ten t) (i .if1 .left) _
-    (b .distribute .ensures ∙ hazards-enough (sheet s .sheet) _ (h .part .ensures) (o .limits .lists .1 .hazards) (s .args .steps)))
+    (b .distribute .ensures ∙ hazards-enough (sheet s .sheet) _ _ (h .before .part .ensures) (h .part2 .ensures) (s .args .steps)))
 
 pub forward-spec : {M : Type 1} → statement M
 forward-spec =
@@ -111,6 +122,7 @@ forward-spec =
     same-length-2
     returns-2
     part-requires
+    part-requires-2
     distribute-requires
     same-length-3
     returns-3)

@@ -16,14 +16,24 @@ const POOL: Pool = Pool {
 
 const LISTS: Lists = Lists {
     attachments: &[30_000_000, 400_000_000],
-    hazards: &[100_000_000, 200_000_000, 300_000_000, 400_000_000],
+    starts: &[1, 3],
+    hazards: &[
+        100_000_000,
+        200_000_000,
+        300_000_000,
+        400_000_000,
+        150_000_000,
+        250_000_000,
+        350_000_000,
+        450_000_000,
+    ],
     discounts: &[980_000_000, 970_000_000, 960_000_000],
     accruals: &[250_000_000, 0, 500_000_000],
     coupons: &[1_000_000, 500_000],
 };
 
 /// In the order of the spans.
-const LENGTHS: [usize; 5] = [2, 4, 3, 3, 2];
+const LENGTHS: [usize; 6] = [2, 2, 8, 3, 3, 2];
 
 const REGISTER: [u8; 256] = [crate::LIVE; 256];
 
@@ -111,9 +121,10 @@ fn outcome(call: Call, before: &Desk, sheet: &Sheet) -> (Result<Vec<i64>, Refusa
     (call(&mut desk, sheet), desk)
 }
 
-fn spans(layout: &Layout) -> [Span; 5] {
+fn spans(layout: &Layout) -> [Span; 6] {
     [
         layout.attachments,
+        layout.starts,
         layout.hazards,
         layout.discounts,
         layout.accruals,
@@ -121,11 +132,12 @@ fn spans(layout: &Layout) -> [Span; 5] {
     ]
 }
 
-fn spanned(numbers: &[u64], spans: [Span; 5]) -> Sheet {
-    let [attachments, hazards, discounts, accruals, coupons] = spans;
+fn spanned(numbers: &[u64], spans: [Span; 6]) -> Sheet {
+    let [attachments, starts, hazards, discounts, accruals, coupons] = spans;
     let layout = Layout {
         pool: POOL,
         attachments,
+        starts,
         hazards,
         discounts,
         accruals,
@@ -153,12 +165,13 @@ struct Tally {
 
 /// Each call on a sheet of these spans, beside the plain sheet of the lists
 /// that they mean.
-fn assert_meaning(tally: &mut Tally, before: &Desk, numbers: &[u64], spans: [Span; 5]) {
+fn assert_meaning(tally: &mut Tally, before: &Desk, numbers: &[u64], spans: [Span; 6]) {
     let sheet = spanned(numbers, spans);
     let lists = spans.map(|span| meant(numbers, span));
-    let [attachments, hazards, discounts, accruals, coupons] = lists;
+    let [attachments, starts, hazards, discounts, accruals, coupons] = lists;
     let lists_meant = Lists {
         attachments,
+        starts,
         hazards,
         discounts,
         accruals,
@@ -192,11 +205,11 @@ fn every_call_accepts_the_plain_sheet() {
     }
 }
 
-/// The 120 orders of five lists.
-fn orders() -> Vec<[usize; 5]> {
-    let codes = 0..5_usize.pow(5);
-    let digits = codes.map(|code| [625, 125, 25, 5, 1].map(|unit| code / unit % 5));
-    let orders = digits.filter(|order| (0..5).all(|list| order.contains(&list)));
+/// The 720 orders of six lists.
+fn orders() -> Vec<[usize; 6]> {
+    let codes = 0..6_usize.pow(6);
+    let digits = codes.map(|code| [0, 1, 2, 3, 4, 5].map(|place| code / 6_usize.pow(place) % 6));
+    let orders = digits.filter(|order| (0..6).all(|list| order.contains(&list)));
     orders.collect()
 }
 
@@ -224,7 +237,7 @@ fn lists_in_any_order_with_gaps() {
             );
         }
     }
-    assert_eq!(orders().len(), 120);
+    assert_eq!(orders().len(), 720);
 }
 
 /// What would be taken for `n` by a count in 32 bits or in bytes, and the
@@ -272,14 +285,14 @@ fn oddly(way: usize, own: Span, end: usize) -> Span {
     Span { at, length }
 }
 
-/// All five lists at once, each in every odd way.
+/// All six lists at once, each in every odd way.
 #[test]
-fn five_odd_spans_at_once() {
+fn six_odd_spans_at_once() {
     let plain = Sheet::new(POOL, LISTS);
     let end = plain.numbers.len();
     let before = on_the_way();
     let mut tally = Tally::default();
-    for code in 0..5_usize.pow(5) {
+    for code in 0..5_usize.pow(6) {
         let mut odd = spans(&plain.layout);
         for (list, span) in odd.iter_mut().enumerate() {
             *span = oddly(code / 5_usize.pow(list as u32) % 5, *span, end);
