@@ -7,7 +7,7 @@ use native.Mathlib.Nat.{le-refl, le-step, le-of-lt, le-trans, mul-le-mul-left, m
 use native.Mathlib.Omega.{arith}
 use Rattle.cash.specs.Units.{B}
 use Rattle.cash.specs.Sums.{sumTo, Rising}
-use Rattle.cash.specs.Losses.{poolLoss, trancheLoss, clampedLoss, CasesClamp, premiumPayment}
+use Rattle.cash.specs.Losses.{poolLoss, trancheLoss, clampedLoss, CasesClamp, premiumPayment, elapsedPayment}
 use Rattle.cash.proofs.Rounding.{half-most}
 use Rattle.cash.proofs.Sums.{rises}
 
@@ -98,3 +98,8 @@ losses-add (suc r) c h x =
 pub premium-payment-most : (accrual outstanding : ℕ) → outstanding ≤ B → premiumPayment accrual outstanding ≤ accrual
 unfolding premiumPayment
 premium-payment-most accrual outstanding h = half-most _ _ (mul-le-mul-left accrual h)
+
+-- an elapsed payment is at most the nominal that the default takes off
+pub elapsed-payment-most : (fraction before after : ℕ) → fraction ≤ B → elapsedPayment fraction before after ≤ before - after
+unfolding elapsedPayment
+elapsed-payment-most fraction before after h = half-most _ _ (omega (arith, mul-le-mul-right (before - after) h))

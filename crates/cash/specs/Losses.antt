@@ -59,3 +59,8 @@ defaultPayment before after = after - before
 -- What a premium date pays: the accrual on the outstanding nominal.
 unfoldable pub premiumPayment : ℕ → ℕ → ℕ
 premiumPayment accrual outstanding = half (accrual * outstanding)
+
+-- What a default pays of the premium earned since the last date: the elapsed fraction of a year on what the default takes off the outstanding
+-- nominal, from O(k) to O(k + 1). (T-01)
+unfoldable pub elapsedPayment : ℕ → ℕ → ℕ → ℕ
+elapsedPayment fraction before after = half (fraction * (before - after))

@@ -13,6 +13,7 @@ ghost use Rattle.cash.specs.Losses.{
   indexOutstanding,
   defaultPayment,
   premiumPayment,
+  elapsedPayment,
 };
 ghost use Rattle.cash.specs.Hedges.{
   netValue,
@@ -111,6 +112,14 @@ pub fn premium_payment(accrual: u64, outstanding: u64) -> u64
     ensures { λ r. ⌜ r ≡ premiumPayment accrual outstanding ⌝ }
 {
     half(accrual * outstanding)
+}
+
+// What a default pays of the premium earned since the last date, on the nominal that it takes off.
+pub fn elapsed_payment(fraction: u64, before: u64, after: u64) -> u64
+    requires { ⌜ (fraction ≤ B) × (before ≤ B) × (after ≤ before) ⌝ }
+    ensures { λ r. ⌜ r ≡ elapsedPayment fraction before after ⌝ }
+{
+    half(fraction * (before - after))
 }
 
 // W = 10,000,000 × D - coupon × A.

@@ -10,10 +10,10 @@ pub record Brought : Type 0 where
   pub number : ℕ
   pub coupons : List ℕ
 
-abbrev pub brought : Pool → List ℕ → List ℕ → List ℕ → List ℕ → List ℕ → List ℕ → Brought
-brought pool attachments starts hazards discounts accruals coupons =
-    record { sheet = termsOf pool attachments starts hazards discounts accruals; number = pool .number; coupons = coupons }
+abbrev pub brought : Pool → List ℕ → List ℕ → List ℕ → List ℕ → List ℕ → List ℕ → List ℕ → Brought
+brought pool attachments starts hazards discounts accruals elapsed coupons =
+    record { sheet = termsOf pool attachments starts hazards discounts accruals elapsed; number = pool .number; coupons = coupons }
 
 -- A pool alone: what rests on no list.
 abbrev pub withoutLists : Pool → Brought
-withoutLists pool = brought pool [] [] [] [] [] []
+withoutLists pool = brought pool [] [] [] [] [] [] []

@@ -1,10 +1,11 @@
--- What document 01 asks of a sheet, as plain propositions ('Sheet and units' and rows 1 to 8 of the table of refusals, and T-06).
+-- What document 01 asks of a sheet, as plain propositions ('Sheet and units' and rows 1 to 8 of the table of refusals, T-06 and T-01).
 use Prim.Native.Nat.{ℕ, suc, pred, _+_, _*_, _≤_, _<_}
 use mathlib.Core.Path.{_≡_}
-use lib.ListN.{length, getD}
+use lib.ListN.{length, getD, drop}
 use Rattle.cash.specs.Units.{B}
 use Rattle.sheet.specs.Terms.{Terms, sumOf}
 use Rattle.sheet.specs.Brought.{Brought}
+use Rattle.sheet.specs.Dates.{nextAccrual}
 
 -- 1: n, m and r
 pub record PoolInside (x : Terms) : Type 0 where
@@ -21,6 +22,7 @@ pub record CurvesFit (x : Terms) : Type 0 where
   pub hazards : length (x .hazards) ≡ length (x .starts) * x .names
   pub discounts : length (x .discounts) ≡ x .steps
   pub accruals : length (x .accruals) ≡ x .steps
+  pub elapsed : length (x .elapsed) ≡ x .steps
 
 abbrev pub ListsFit : Brought → Type 0
 ListsFit x = PointsFit (x .sheet) × CurvesFit (x .sheet) × (length (x .coupons) ≡ x .sheet .tranches + 1)
@@ -54,6 +56,10 @@ pub record AccrualsInside (x : Terms) : Type 0 where
   pub total : sumOf (x .accruals) ≤ 10 * B
   pub last : 1 ≤ getD (x .accruals) (pred (x .steps)) 0
 
+-- 21, after 7: each elapsed fraction is at most the accrual of the next premium date at or after its step. (T-01)
+abbrev pub ElapsedInside : Terms → Type 0
+ElapsedInside x = (i : ℕ) → i < x .steps → getD (x .elapsed) i 0 ≤ nextAccrual (drop i (x .accruals))
+
 -- 8
 abbrev pub CouponsInside : Brought → Type 0
 CouponsInside x = (j : ℕ) → j < x .sheet .tranches + 1 → getD (x .coupons) j 0 ≤ 10_000_000
@@ -68,6 +74,7 @@ pub record Limits (x : Brought) : Type 0 where
   pub hazards : HazardsInside (x .sheet)
   pub discounts : DiscountsInside (x .sheet)
   pub accruals : AccrualsInside (x .sheet)
+  pub elapsed : ElapsedInside (x .sheet)
   pub coupons : CouponsInside x
 
 -- The part of them that losses and what is outstanding rest on: the pool, recovery and attachment points. ('Arithmetic and cash')
@@ -85,3 +92,4 @@ pub record TermsWithin (x : Terms) : Type 0 where
   pub hazards : HazardsInside x
   pub discounts : DiscountsInside x
   pub accruals : AccrualsInside x
+  pub elapsed : ElapsedInside x

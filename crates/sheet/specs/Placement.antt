@@ -15,11 +15,12 @@ distinctSheet =
       hazards = record { at = 6; length = 2 };
       discounts = record { at = 8; length = 1 };
       accruals = record { at = 9; length = 1 };
-      coupons = record { at = 10; length = 4 };
+      elapsed = record { at = 10; length = 1 };
+      coupons = record { at = 11; length = 4 };
     }
 
 abbrev pub distinctNumbers : List ℕ
-distinctNumbers = 10 ∷ 11 ∷ 12 ∷ 13 ∷ 14 ∷ 15 ∷ 16 ∷ 17 ∷ 18 ∷ 19 ∷ 20 ∷ 21 ∷ 22 ∷ 23 ∷ 24 ∷ []
+distinctNumbers = 10 ∷ 11 ∷ 12 ∷ 13 ∷ 14 ∷ 15 ∷ 16 ∷ 17 ∷ 18 ∷ 19 ∷ 20 ∷ 21 ∷ 22 ∷ 23 ∷ 24 ∷ 25 ∷ []
 
 -- Each figure and list is brought where it belongs.
 abbrev pub ListsInPlace : Type 0
@@ -37,7 +38,8 @@ ListsInPlace =
             hazards = 16 ∷ 17 ∷ [];
             discounts = 18 ∷ [];
             accruals = 19 ∷ [];
+            elapsed = 20 ∷ [];
           };
       number = 5;
-      coupons = 20 ∷ 21 ∷ 22 ∷ 23 ∷ [];
+      coupons = 21 ∷ 22 ∷ 23 ∷ 24 ∷ [];
     }

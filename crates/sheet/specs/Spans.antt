@@ -15,7 +15,7 @@ listIn s numbers = take (s .length) (drop (s .at) numbers)
 abbrev pub broughtIn : Declared.Sheet → List ℕ → Brought
 broughtIn x numbers =
     brought (x .pool) (listIn (x .attachments) numbers) (listIn (x .starts) numbers) (listIn (x .hazards) numbers) (listIn (x .discounts) numbers)
-    (listIn (x .accruals) numbers) (listIn (x .coupons) numbers)
+    (listIn (x .accruals) numbers) (listIn (x .elapsed) numbers) (listIn (x .coupons) numbers)
 
 -- What its values rest on.
 abbrev pub termsIn : Declared.Sheet → List ℕ → Terms

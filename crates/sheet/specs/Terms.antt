@@ -14,10 +14,11 @@ pub record Terms : Type 0 where
   pub hazards : List ℕ
   pub discounts : List ℕ
   pub accruals : List ℕ
+  pub elapsed : List ℕ
 
 -- The sheet that a pool and its lists tell.
-abbrev pub termsOf : Pool → List ℕ → List ℕ → List ℕ → List ℕ → List ℕ → Terms
-termsOf pool attachments starts hazards discounts accruals =
+abbrev pub termsOf : Pool → List ℕ → List ℕ → List ℕ → List ℕ → List ℕ → List ℕ → Terms
+termsOf pool attachments starts hazards discounts accruals elapsed =
     record {
       names = pool .names;
       steps = pool .steps;
@@ -28,11 +29,12 @@ termsOf pool attachments starts hazards discounts accruals =
       hazards = hazards;
       discounts = discounts;
       accruals = accruals;
+      elapsed = elapsed;
     }
 
 -- The sheet of a pool and its attachments: losses and what is outstanding rest on no other list. ('Arithmetic and cash')
 abbrev pub bare : Pool → List ℕ → Terms
-bare pool attachments = termsOf pool attachments [] [] [] []
+bare pool attachments = termsOf pool attachments [] [] [] [] []
 
 -- The sum of a list.
 unfoldable pub sumOf : List ℕ → ℕ

@@ -47,6 +47,7 @@ pub struct Sheet {
     pub hazards: Span,
     pub discounts: Span,
     pub accruals: Span,
+    pub elapsed: Span,
     pub coupons: Span,
 }
 
