@@ -3,17 +3,17 @@ use mathlib.Core.Path.{refl}
 use lib.Dec.{lit≤}
 use Rattle.cash.specs.Units.{B, half}
 use Rattle.cash.specs.Sums.{sumTo}
-use Rattle.cash.specs.Losses.{poolLoss, poolRecovery, trancheLoss, trancheRecovery, trancheOutstanding, indexOutstanding, defaultPayment, premiumPayment}
+use Rattle.cash.specs.Losses.{poolLoss, poolRecovery, trancheLoss, trancheRecovery, trancheOutstanding, indexOutstanding, defaultPayment, premiumPayment, elapsedPayment}
 use Rattle.sheet.specs.Periods.{begun, periodOf}
 use Rattle.tree.specs.Paths.{allMoves, keeps, those, paths, weight, paid, total, pathSum, exact}
 use Rattle.tree.specs.Backward.{rollNode, backFrom, back, over, legValue, legExact}
-use Rattle.tree.specs.Legs.{defaultCash, premiumCash, premiumExact, mark}
-use Rattle.tree.specs.Sheet.{hazardOf, discountOf, accrualOf, poolLossOf, poolRecoveryOf, lossOf, outstandingOf, treeOf, defaultOf, premiumOf, D, A, exactD, exactA, dates, spanning}
+use Rattle.tree.specs.Legs.{defaultCash, premiumCash, premiumExact, elapsedCash, elapsedExact, mark}
+use Rattle.tree.specs.Sheet.{hazardOf, discountOf, accrualOf, elapsedOf, poolLossOf, poolRecoveryOf, lossOf, outstandingOf, treeOf, defaultOf, premiumOf, D, A, exactD, exactA, dates, elapsedCount, premiumHalves, spanning}
 use Rattle.tree.specs.Forward.{same, outflow, fromBelow, pushed, distribution, lands, probability, apart, errors}
-use Rattle.tree.specs.Trials.{Starred, Exactly, Roundings, Recoveries, Bounds, PeriodsCrossed}
+use Rattle.tree.specs.Trials.{Starred, Exactly, Roundings, Recoveries, Bounds, PeriodsCrossed, ElapsedPaid}
 
 pub starred : Starred
-unfolding B half poolLoss poolRecovery trancheLoss trancheRecovery trancheOutstanding indexOutstanding defaultPayment premiumPayment rollNode backFrom back legValue defaultCash premiumCash begun periodOf hazardOf discountOf accrualOf poolLossOf poolRecoveryOf lossOf outstandingOf treeOf defaultOf premiumOf D A same outflow fromBelow pushed distribution
+unfolding B half poolLoss poolRecovery trancheLoss trancheRecovery trancheOutstanding indexOutstanding defaultPayment premiumPayment elapsedPayment rollNode backFrom back legValue defaultCash premiumCash elapsedCash begun periodOf hazardOf discountOf accrualOf elapsedOf poolLossOf poolRecoveryOf lossOf outstandingOf treeOf defaultOf premiumOf D A same outflow fromBelow pushed distribution
 starred =
     record {
       first-at-6 = refl;
@@ -36,7 +36,7 @@ starred =
     }
 
 pub exactly : Exactly
-unfolding B poolLoss poolRecovery trancheLoss trancheRecovery trancheOutstanding indexOutstanding defaultPayment allMoves keeps those paths weight paid total pathSum exact legExact defaultCash premiumExact begun periodOf hazardOf discountOf accrualOf poolLossOf poolRecoveryOf lossOf outstandingOf treeOf defaultOf premiumOf exactD exactA same lands probability
+unfolding B poolLoss poolRecovery trancheLoss trancheRecovery trancheOutstanding indexOutstanding defaultPayment allMoves keeps those paths weight paid total pathSum exact legExact defaultCash premiumExact elapsedExact begun periodOf hazardOf discountOf accrualOf elapsedOf poolLossOf poolRecoveryOf lossOf outstandingOf treeOf defaultOf premiumOf exactD exactA same lands probability
 exactly =
     record {
       tranche-default = refl;
@@ -51,7 +51,7 @@ exactly =
     }
 
 pub roundings : Roundings
-unfolding B half poolLoss poolRecovery trancheLoss trancheRecovery trancheOutstanding indexOutstanding defaultPayment premiumPayment rollNode backFrom back legValue defaultCash premiumCash begun periodOf hazardOf discountOf accrualOf poolLossOf poolRecoveryOf lossOf outstandingOf treeOf defaultOf premiumOf D A same outflow fromBelow pushed distribution
+unfolding B half poolLoss poolRecovery trancheLoss trancheRecovery trancheOutstanding indexOutstanding defaultPayment premiumPayment elapsedPayment rollNode backFrom back legValue defaultCash premiumCash elapsedCash begun periodOf hazardOf discountOf accrualOf elapsedOf poolLossOf poolRecoveryOf lossOf outstandingOf treeOf defaultOf premiumOf D A same outflow fromBelow pushed distribution
 roundings =
     record {
       loss-at-1 = refl;
@@ -69,7 +69,7 @@ roundings =
     }
 
 pub recoveries : Recoveries
-unfolding B half poolLoss poolRecovery trancheLoss trancheRecovery trancheOutstanding indexOutstanding defaultPayment premiumPayment rollNode backFrom back legValue defaultCash premiumCash begun periodOf hazardOf discountOf accrualOf poolLossOf poolRecoveryOf lossOf outstandingOf treeOf defaultOf premiumOf D A same outflow fromBelow pushed distribution
+unfolding B half poolLoss poolRecovery trancheLoss trancheRecovery trancheOutstanding indexOutstanding defaultPayment premiumPayment elapsedPayment rollNode backFrom back legValue defaultCash premiumCash elapsedCash begun periodOf hazardOf discountOf accrualOf elapsedOf poolLossOf poolRecoveryOf lossOf outstandingOf treeOf defaultOf premiumOf D A same outflow fromBelow pushed distribution
 recoveries =
     record {
       first-at-1 = refl;
@@ -93,17 +93,18 @@ recoveries =
     }
 
 pub bounds : Bounds
-unfolding B half sumTo poolLoss poolRecovery trancheLoss trancheRecovery trancheOutstanding indexOutstanding defaultPayment premiumPayment rollNode backFrom back over legValue defaultCash premiumCash mark begun periodOf hazardOf discountOf accrualOf poolLossOf poolRecoveryOf lossOf outstandingOf treeOf defaultOf premiumOf D A dates spanning allMoves keeps those paths weight total pathSum same outflow fromBelow pushed distribution lands probability apart errors
+unfolding B half sumTo poolLoss poolRecovery trancheLoss trancheRecovery trancheOutstanding indexOutstanding defaultPayment premiumPayment elapsedPayment rollNode backFrom back over legValue defaultCash premiumCash elapsedCash mark begun periodOf hazardOf discountOf accrualOf elapsedOf poolLossOf poolRecoveryOf lossOf outstandingOf treeOf defaultOf premiumOf D A dates elapsedCount premiumHalves spanning allMoves keeps those paths weight paid total pathSum exact legExact premiumExact elapsedExact exactA same outflow fromBelow pushed distribution lands probability apart errors
 bounds =
     record {
       defaults-add = record { below = lit≤ tt; above = lit≤ tt };
       premiums-add = record { below = lit≤ tt; above = lit≤ tt };
       index-premiums-add = record { below = lit≤ tt; above = lit≤ tt };
+      premium-distance = record { below = lit≤ tt; above = lit≤ tt };
       errors = lit≤ tt;
     }
 
 pub periods : PeriodsCrossed
-unfolding B half poolLoss poolRecovery trancheLoss trancheRecovery trancheOutstanding indexOutstanding defaultPayment premiumPayment rollNode backFrom back legValue defaultCash premiumCash begun periodOf hazardOf discountOf accrualOf poolLossOf poolRecoveryOf lossOf outstandingOf treeOf defaultOf premiumOf D A same outflow fromBelow pushed distribution allMoves keeps those paths weight paid total pathSum exact legExact exactD lands probability
+unfolding B half poolLoss poolRecovery trancheLoss trancheRecovery trancheOutstanding indexOutstanding defaultPayment premiumPayment elapsedPayment rollNode backFrom back legValue defaultCash premiumCash elapsedCash begun periodOf hazardOf discountOf accrualOf elapsedOf poolLossOf poolRecoveryOf lossOf outstandingOf treeOf defaultOf premiumOf D A same outflow fromBelow pushed distribution allMoves keeps those paths weight paid total pathSum exact legExact exactD lands probability
 periods =
     record {
       before-start = refl;
@@ -118,4 +119,19 @@ periods =
       row-after-3 = refl;
       chance-after-3 = refl;
       exact-default = refl;
+    }
+
+pub elapsed-paid : ElapsedPaid
+unfolding B half poolLoss poolRecovery trancheLoss trancheRecovery trancheOutstanding indexOutstanding premiumPayment elapsedPayment rollNode backFrom back legValue premiumCash elapsedCash premiumExact elapsedExact begun periodOf hazardOf discountOf accrualOf elapsedOf poolLossOf poolRecoveryOf outstandingOf treeOf premiumOf A allMoves keeps those paths weight paid total pathSum exact legExact exactA
+elapsed-paid =
+    record {
+      tranche-after-1 = refl;
+      tranche-after-2 = refl;
+      index-after-1 = refl;
+      index-after-2 = refl;
+      exact-index = refl;
+      worked-tranche = refl;
+      worked-index = refl;
+      exact-worked = refl;
+      rounded-apart = refl;
     }

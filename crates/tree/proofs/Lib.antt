@@ -9,4 +9,5 @@ pub mod Forward
 pub mod Sheets
 pub mod Statements
 pub mod OnePeriod
+pub mod DatesOnly
 pub mod Acceptance

@@ -87,3 +87,8 @@ pub over-zero : (h i : ℕ) → over (λ s. 0) h i ≡ 0
 unfolding over
 over-zero zero i = refl
 over-zero (suc h) i = omega (arith, over-zero h (suc i))
+
+pub over-add : (v w : ℕ → ℕ) (h i : ℕ) → over (λ s. v s + w s) h i ≡ over v h i + over w h i
+unfolding over
+over-add v w zero i = refl
+over-add v w (suc h) i = omega (arith, over-add v w h (suc i))

@@ -5,7 +5,7 @@ use mathlib.Core.Path.{_≡_, refl, sym, _∙_, ap, ap₂}
 use mathlib.Core.Bool.{Bool, true, false, cond}
 use mathlib.Core.List.{List, [], _∷_}
 use native.Mathlib.Omega.{arith}
-use lib.ListN.{getD, drop}
+use lib.ListN.{length, getD, drop, drop-of-length-le}
 use lib.Dec.{ltb}
 use borrow.Author.Tests.{lt-ltb, le-ltb}
 use Rattle.cash.specs.Units.{B}
@@ -17,12 +17,15 @@ use Rattle.cash.proofs.Recoveries.{pool-recovery-rises, outstanding-falls, outs
 use Rattle.tree.specs.Paths.{Fair}
 use Rattle.tree.specs.Backward.{backFrom, over, Agrees, legHalves}
 use Rattle.sheet.specs.Terms.{Terms, sumOf}
-use Rattle.tree.specs.Sheet.{hazardOf, discountOf, accrualOf, poolLossOf, poolRecoveryOf, lossOf, widthOf, outstandingOf, treeOf, defaultOf, premiumOf, dates, defaultMost, premiumMost, WholePool, spanning}
+use Rattle.tree.specs.Legs.{mark}
+use Rattle.tree.specs.Sheet.{hazardOf, discountOf, accrualOf, elapsedOf, poolLossOf, poolRecoveryOf, lossOf, widthOf, outstandingOf, treeOf, defaultOf, premiumOf, dates, elapsedCount, premiumHalves, defaultMost, premiumMost, WholePool, spanning}
 use Rattle.sheet.specs.Limits.{TranchesWithin, TermsWithin}
 use Rattle.sheet.proofs.Limits.{attachment-most, hazard-most, discount-most}
 use Rattle.tree.proofs.Additions.{Spans}
 use Rattle.tree.proofs.Legs.{default-agrees, premium-agrees, default-halves, defaults-span, premiums-span}
-use Rattle.tree.proofs.Ceilings.{default-ceiling, premium-ceiling}
+use Rattle.tree.proofs.Ceilings.{Earned, default-ceiling, premium-ceiling}
+use Rattle.tree.proofs.Rolling.{over-add}
+use Rattle.sheet.proofs.Dates.{next-sum}
 
 -- ---- choices
 
@@ -127,35 +130,41 @@ default-agrees-of x j = default-agrees (lossOf x j)
 
 pub premium-agrees-of : (x : Terms) (j : ℕ) → Agrees (premiumOf x j)
 unfolding premiumOf
-premium-agrees-of x j = premium-agrees (accrualOf x) (outstandingOf x j)
+premium-agrees-of x j = premium-agrees (accrualOf x) (elapsedOf x) (outstandingOf x j)
 
 pub default-halves-of : (x : Terms) (j h i : ℕ) → legHalves (defaultOf x j) h i ≡ 2 * h
 unfolding defaultOf
 default-halves-of x j h i = default-halves (lossOf x j) h i
 
-pub premium-halves-of : (x : Terms) (j h i : ℕ) → legHalves (premiumOf x j) h i ≡ 2 * h + dates x h i
-unfolding legHalves premiumOf dates
-premium-halves-of x j h i = refl
+pub premium-halves-of : (x : Terms) (j h i : ℕ) → legHalves (premiumOf x j) h i ≡ premiumHalves x h i
+unfolding legHalves premiumOf premiumHalves dates elapsedCount
+premium-halves-of x j h i = omega (arith, over-add (λ s. mark (accrualOf x s)) (λ s. mark (elapsedOf x s)) h i)
 
 pub defaults-spanned : (x : Terms) → TranchesWithin x → Spans (x .tranches) (defaultOf x) (defaultOf (spanning x) 0)
 unfolding defaultOf
 defaults-spanned x w = defaults-span (x .tranches) (lossOf x) (lossOf (spanning x) 0) (losses-span x w) (loss-rises x w)
 
 pub premiums-spanned : (x : Terms) → TranchesWithin x → Spans (x .tranches) (premiumOf x) (premiumOf (spanning x) 0)
-unfolding premiumOf spanning accrualOf
-premiums-spanned x w = premiums-span (x .tranches) (accrualOf x) (outstandingOf x) (outstandingOf (spanning x) 0) (outstandings-span x w)
+unfolding premiumOf spanning accrualOf elapsedOf
+premiums-spanned x w =
+    premiums-span (x .tranches) (accrualOf x) (elapsedOf x) (outstandingOf x) (outstandingOf (spanning x) 0) (outstandings-span x w) (outstanding-less x w)
 
 pub premiums-of-index : (x : Terms) → TranchesWithin x → WholePool x → Spans (x .tranches) (premiumOf x) (premiumOf x (x .tranches))
 unfolding premiumOf
-premiums-of-index x w p = premiums-span (x .tranches) (accrualOf x) (outstandingOf x) (outstandingOf x (x .tranches)) (outstandings-index x w p)
+premiums-of-index x w p =
+    premiums-span (x .tranches) (accrualOf x) (elapsedOf x) (outstandingOf x) (outstandingOf x (x .tranches)) (outstandings-index x w p) (outstanding-less x w)
 
--- ---- ceilings of rows that start from any row within its own
+-- ---- ceilings
 
 -- the default leg of a row that stands h steps on
 pub default-keeps : (x : Terms) → TermsWithin x → (j : ℕ) (q : ℕ → ℕ) → ((k : ℕ) → k ≤ x .names → q k ≤ defaultMost x j k) →
     (h i k : ℕ) → k ≤ x .names → backFrom (treeOf x) (defaultOf x j .rounded) q h i k ≤ defaultMost x j k
 unfolding treeOf defaultOf defaultMost
 default-keeps x w j q starts = default-ceiling (treeOf x) (fair-of x w) (lossOf x j) q (widthOf x j) (loss-rises x (w .tranches) j) (loss-most x j) starts
+
+sum-none : sumOf [] ≡ 0
+unfolding sumOf
+sum-none = refl
 
 sum-drop : (l : List ℕ) (i : ℕ) → sumOf (drop i l) ≡ getD l i 0 + sumOf (drop (suc i) l)
 unfolding sumOf
@@ -171,9 +180,33 @@ accruals-after x zero i = rw add-zero (omega arith)
 accruals-after x (suc h) i =
     omega (arith, sum-drop (x .accruals) i, accruals-after x h (suc i), ap (λ n. sumOf (drop n (x .accruals))) (suc-add i h ∙ sym (add-suc i h)))
 
--- the premium leg of a row that stands at step i + h
-pub premium-keeps : (x : Terms) → TermsWithin x → (j : ℕ) (q : ℕ → ℕ) (h i : ℕ) → ((k : ℕ) → k ≤ x .names → q k ≤ premiumMost x (i + h) k) →
-    (k : ℕ) → k ≤ x .names → backFrom (treeOf x) (premiumOf x j .rounded) q h i k ≤ premiumMost x i k
+-- those of all steps that follow
+accruals-to-the-end : (x : Terms) → TermsWithin x → (h i : ℕ) → i + h ≡ x .steps → over (accrualOf x) h i ≡ sumOf (drop i (x .accruals))
+accruals-to-the-end x w h i e =
+    let past : length (x .accruals) ≤ i + h = omega (arith, w .curves .accruals) in
+    let none : drop (i + h) (x .accruals) ≡ [] = drop-of-length-le (x .accruals) past in
+    let zero : sumOf (drop (i + h) (x .accruals)) ≡ 0 = ap sumOf none ∙ sum-none in
+    omega (arith, accruals-after x h i)
+
+-- a fraction is at most the next date's accrual, so at most all accruals from its step on
+earned-of : (x : Terms) → TermsWithin x → Earned (x .steps) (accrualOf x) (elapsedOf x)
+unfolding elapsedOf
+earned-of x w h i q =
+    omega (
+      arith,
+      w .elapsed i (omega arith),
+      next-sum (drop i (x .accruals)),
+      accruals-to-the-end x w (suc h) i q,
+    )
+
+-- the premium leg of a walk from the last step
+pub premium-keeps : (x : Terms) → TermsWithin x → (j h i k : ℕ) → i + h ≡ x .steps → k ≤ x .names →
+    backFrom (treeOf x) (premiumOf x j .rounded) (λ k. 0) h i k ≤ premiumMost x i k
 unfolding treeOf premiumOf premiumMost
-premium-keeps x w j q h i starts k l =
-    omega (arith, accruals-after x h i, premium-ceiling (treeOf x) (fair-of x w) (accrualOf x) (outstandingOf x j) q _ (λ k l. outstanding-within x (w .tranches) j k) starts h i k l)
+premium-keeps x w j h i k e l =
+    omega (
+      arith,
+      accruals-to-the-end x w h i e,
+      premium-ceiling (treeOf x) (fair-of x w) (x .steps) (accrualOf x) (elapsedOf x) (outstandingOf x j) (earned-of x w) (outstanding-less x (w .tranches) j)
+          (outstanding-within x (w .tranches) j) h i k e l,
+    )

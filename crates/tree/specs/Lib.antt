@@ -5,4 +5,5 @@ pub mod Sheet
 pub mod Forward
 pub mod Statements
 pub mod OnePeriod
+pub mod DatesOnly
 pub mod Trials

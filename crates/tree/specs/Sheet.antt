@@ -24,6 +24,14 @@ discountOf x s = getD (x .discounts) (pred s) 0
 unfoldable pub accrualOf : Terms → ℕ → ℕ
 accrualOf x s = getD (x .accruals) (pred s) 0
 
+-- e of step s, likewise. (T-01)
+unfoldable pub elapsedOf : Terms → ℕ → ℕ
+elapsedOf x s = getD (x .elapsed) (pred s) 0
+
+-- No default pays an elapsed premium: all fractions are 0.
+abbrev pub NoneElapsed : Terms → Type 0
+NoneElapsed x = (s : ℕ) → elapsedOf x s ≡ 0
+
 -- L(k) ('Arithmetic and cash')
 unfoldable pub poolLossOf : Terms → ℕ → ℕ
 poolLossOf x k = poolLoss (x .names) (x .recovery) k
@@ -59,7 +67,7 @@ unfoldable pub defaultOf : Terms → ℕ → Leg
 defaultOf x j = defaultLeg (lossOf x j)
 
 unfoldable pub premiumOf : Terms → ℕ → Leg
-premiumOf x j = premiumLeg (accrualOf x) (outstandingOf x j)
+premiumOf x j = premiumLeg (accrualOf x) (elapsedOf x) (outstandingOf x j)
 
 -- D and A of tranche j at step i and count k, by the rounded rule over the h steps after i.
 unfoldable pub D : Terms → ℕ → ℕ → ℕ → ℕ → ℕ
@@ -79,12 +87,21 @@ exactA x j = legExact (treeOf x) (premiumOf x j)
 unfoldable pub dates : Terms → ℕ → ℕ → ℕ
 dates x h i = over (λ s. mark (accrualOf x s)) h i
 
--- Ceilings at count k: what tranche j has left to lose, and the accruals after step i.
+-- f: how many of them have an elapsed fraction. (T-01)
+unfoldable pub elapsedCount : Terms → ℕ → ℕ → ℕ
+elapsedCount x h i = over (λ s. mark (elapsedOf x s)) h i
+
+-- The distance of A over those steps, in half units: h + (q + f) / 2 units.
+unfoldable pub premiumHalves : Terms → ℕ → ℕ → ℕ
+premiumHalves x h i = 2 * h + dates x h i + elapsedCount x h i
+
+-- Ceilings at count k: what tranche j has left to lose; and the accruals after step i, a unit for each name that is left and two for each step to
+-- come. (T-01, on the second)
 unfoldable pub defaultMost : Terms → ℕ → ℕ → ℕ
 defaultMost x j k = widthOf x j - lossOf x j k
 
 unfoldable pub premiumMost : Terms → ℕ → ℕ → ℕ
-premiumMost x i k = sumOf (drop i (x .accruals))
+premiumMost x i k = sumOf (drop i (x .accruals)) + (x .names - k) + 2 * (x .steps - i)
 
 -- The attachment points run from 0 to B, so that the tranches are the whole pool. (T-12)
 pub record WholePool (x : Terms) : Type 0 where
@@ -104,4 +121,5 @@ spanning x =
       hazards = x .hazards;
       discounts = x .discounts;
       accruals = x .accruals;
+      elapsed = x .elapsed;
     }

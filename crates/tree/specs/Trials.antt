@@ -3,8 +3,9 @@ use Prim.Native.Nat.{ℕ, _*_, _^_}
 use mathlib.Core.Path.{_≡_}
 use mathlib.Core.List.{[], _∷_}
 use Rattle.cash.specs.Units.{B, half}
+use Rattle.cash.specs.Near.{Near}
 use Rattle.sheet.specs.Terms.{Terms}
-use Rattle.tree.specs.Sheet.{hazardOf, treeOf, poolLossOf, outstandingOf, D, A, exactD, exactA}
+use Rattle.tree.specs.Sheet.{hazardOf, treeOf, poolLossOf, outstandingOf, D, A, exactD, exactA, premiumHalves}
 use Rattle.tree.specs.Forward.{distribution, probability}
 use Rattle.tree.specs.Statements.{DefaultsAdd, PremiumsAdd, IndexPremiumsAdd, ErrorsWithin}
 
@@ -21,6 +22,7 @@ wide =
       hazards = [];
       discounts = [];
       accruals = [];
+      elapsed = [];
     }
 
 -- The deck of document 01.
@@ -36,6 +38,7 @@ worked =
       hazards = 100_000_000 ∷ 200_000_000 ∷ [];
       discounts = 1_000_000_000 ∷ 900_000_000 ∷ [];
       accruals = 0 ∷ 1_000_000_000 ∷ [];
+      elapsed = 0 ∷ 0 ∷ [];
     }
 
 -- A pool of three, in which little divides.
@@ -51,6 +54,7 @@ unevenPool =
       hazards = 123_456_789 ∷ 234_567_891 ∷ 345_678_912 ∷ [];
       discounts = 987_654_321 ∷ 976_543_210 ∷ [];
       accruals = 250_000_000 ∷ 253_000_000 ∷ [];
+      elapsed = 0 ∷ 0 ∷ [];
     }
 
 -- Eight tranches of one unit, each leg of each worth half a unit or less and rounded up to 1.
@@ -66,6 +70,7 @@ units =
       hazards = 500_000_000 ∷ [];
       discounts = 1_000_000_000 ∷ [];
       accruals = 500_000_000 ∷ [];
+      elapsed = 0 ∷ [];
     }
 
 -- Two names whose distribution gathers more than a unit of errors a step.
@@ -81,6 +86,7 @@ drifting =
       hazards = 300_000_009 ∷ 48 ∷ [];
       discounts = 1_000_000_000 ∷ 1_000_000_000 ∷ 1_000_000_000 ∷ [];
       accruals = 0 ∷ 0 ∷ 1_000_000_000 ∷ [];
+      elapsed = 0 ∷ 0 ∷ 0 ∷ [];
     }
 
 -- Three names that default for sure, in two tranches from 0 to B that meet at a point: a step shows what is outstanding after it, unit for unit.
@@ -96,6 +102,7 @@ toppedPool recovery middle =
       hazards = 1_000_000_000 ∷ 1_000_000_000 ∷ 1_000_000_000 ∷ [];
       discounts = 1_000_000_000 ∷ [];
       accruals = 1_000_000_000 ∷ [];
+      elapsed = 0 ∷ [];
     }
 
 -- Eight tranches of the whole pool, of which seven are of a few units, with premiums of half a year.
@@ -111,6 +118,7 @@ slivers =
       hazards = 500_000_000 ∷ [];
       discounts = 1_000_000_000 ∷ [];
       accruals = 500_000_000 ∷ [];
+      elapsed = 0 ∷ [];
     }
 
 -- Two names over three steps, of which the last is a period of its own.
@@ -126,6 +134,54 @@ twoPeriods =
       hazards = 100_000_000 ∷ 200_000_000 ∷ 300_000_000 ∷ 400_000_000 ∷ [];
       discounts = 1_000_000_000 ∷ 1_000_000_000 ∷ 1_000_000_000 ∷ [];
       accruals = 0 ∷ 0 ∷ 1_000_000_000 ∷ [];
+      elapsed = 0 ∷ 0 ∷ 0 ∷ [];
+    }
+
+-- The uneven pool, and the deck of document 01, with premium earned up to a default. (T-01)
+abbrev pub unevenEarning : Terms
+unevenEarning =
+    record {
+      names = 3;
+      steps = 2;
+      tranches = 1;
+      recovery = 350_000_000;
+      attachments = 0 ∷ 300_000_000 ∷ [];
+      starts = 1 ∷ [];
+      hazards = 123_456_789 ∷ 234_567_891 ∷ 345_678_912 ∷ [];
+      discounts = 987_654_321 ∷ 976_543_210 ∷ [];
+      accruals = 250_000_000 ∷ 253_000_000 ∷ [];
+      elapsed = 123_456_789 ∷ 98_765_432 ∷ [];
+    }
+
+abbrev pub workedEarning : Terms
+workedEarning =
+    record {
+      names = 2;
+      steps = 2;
+      tranches = 1;
+      recovery = 400_000_000;
+      attachments = 0 ∷ 300_000_000 ∷ [];
+      starts = 1 ∷ [];
+      hazards = 100_000_000 ∷ 200_000_000 ∷ [];
+      discounts = 1_000_000_000 ∷ 900_000_000 ∷ [];
+      accruals = 0 ∷ 1_000_000_000 ∷ [];
+      elapsed = 500_000_000 ∷ 750_000_000 ∷ [];
+    }
+
+-- A step whose four roundings each add nearly half a unit: the premium of its date, that of a default, the chance and the discount.
+abbrev pub fourHalves : Terms
+fourHalves =
+    record {
+      names = 2;
+      steps = 1;
+      tranches = 1;
+      recovery = 0;
+      attachments = 0 ∷ 1_000_000_000 ∷ [];
+      starts = 1 ∷ [];
+      hazards = 999_999_998 ∷ 0 ∷ [];
+      discounts = 999_999_998 ∷ [];
+      accruals = 999_999_999 ∷ [];
+      elapsed = 499_999_997 ∷ [];
     }
 
 -- The starred entries. The deck's figures stand at its root; tranche 1 of it is the index.
@@ -201,11 +257,13 @@ pub record Recoveries : Type 0 where
   pub all-default : D (toppedPool 1_000_000_000 300_000_000) 2 1 0 0 ≡ 0
 
 -- What is owed between tranches, and of a distribution, where less would be false: the D of the eight units add to 8 and their A to 8,
--- beside 4 and 2 of the one that spans them; the A of the slivers add to 5 more than the index's; and the errors of three steps total 3.3 units.
+-- beside 4 and 2 of the one that spans them; the A of the slivers add to 5 more than the index's; an A lies nearly 2 units from its exact value after
+-- one step; and the errors of three steps total 3.3 units.
 pub record Bounds : Type 0 where
   pub defaults-add : DefaultsAdd units 1 0 0
   pub premiums-add : PremiumsAdd units 1 0 0
   pub index-premiums-add : IndexPremiumsAdd slivers 1 0 0
+  pub premium-distance : Near (premiumHalves fourHalves 1 0 * B ^ 3) (2 * (A fourHalves 1 1 0 0 * B ^ 3)) (2 * exactA fourHalves 1 1 0 0)
   pub errors : ErrorsWithin drifting 3
 
 -- Hazards on both sides of the step at which the second period starts, and what comes of them. From the last count no default comes, though the
@@ -223,3 +281,16 @@ pub record PeriodsCrossed : Type 0 where
   pub row-after-3 : distribution (treeOf twoPeriods) 3 1 ≡ 345_000_000
   pub chance-after-3 : probability (treeOf twoPeriods) 3 1 ≡ 345_000_000 * B * B
   pub exact-default : exactD twoPeriods 1 3 0 0 ≡ 260_500_000 * B ^ 7
+
+-- Premium earned up to a default, at nodes one and two steps before the end; tranche 1 is the index. The deck's are whole units, so exact.
+-- Rounded together with the premium of its date, the last would end in 8.
+pub record ElapsedPaid : Type 0 where
+  pub tranche-after-1 : A unevenEarning 0 1 1 0 ≡ 70_090_787
+  pub tranche-after-2 : A unevenEarning 0 2 0 0 ≡ 133_561_534
+  pub index-after-1 : A unevenEarning 1 1 1 2 ≡ 65_000_137
+  pub index-after-2 : A unevenEarning 1 2 0 0 ≡ 468_941_908
+  pub exact-index : exactA unevenEarning 1 2 0 0 ≡ 468_941_907_423_345_222_438_654_436_675_303_971_402_401_819_227_061_280
+  pub worked-tranche : A workedEarning 0 2 0 0 ≡ 251_925_000
+  pub worked-index : A workedEarning 1 2 0 0 ≡ 867_625_000
+  pub exact-worked : exactA workedEarning 0 2 0 0 ≡ 251_925_000 * B ^ 5
+  pub rounded-apart : A fourHalves 1 1 0 0 ≡ 749_999_999
