@@ -6,7 +6,7 @@ use lib.ListN.{length, drop}
 use Rattle.cash.specs.Units.{B}
 use Rattle.sheet.specs.Terms.{Terms, sumOf}
 use Rattle.sheet.specs.Limits.{TermsWithin}
-use Rattle.tree.specs.Sheet.{lossOf}
+use Rattle.tree.specs.Sheet.{lossOf, outstandingOf}
 use Rattle.rows.specs.Rows.{nodeIn, rowLength}
 
 -- Rows at a position that can be walked count steps back. Their bounds are wider than their ceilings, and a step back keeps them.
@@ -18,4 +18,4 @@ pub record Rollable (x : Terms) (defaults premiums : List ℕ) (position count :
   pub premiums-long : length premiums ≡ rowLength x
   pub defaults-most : (j k : ℕ) → j ≤ x .tranches → k ≤ x .names → nodeIn x defaults j k + lossOf x j k ≤ 2 * B
   pub premiums-most : (j k : ℕ) → j ≤ x .tranches → k ≤ x .names →
-      nodeIn x premiums j k ≤ 8 * B + sumOf (drop position (x .accruals))
+      nodeIn x premiums j k ≤ 7 * B + outstandingOf x j k + sumOf (drop position (x .accruals))
