@@ -1,6 +1,6 @@
 // The tables of a walk back, by tranche and count: what a default pays, and what is outstanding.
 ghost use mathlib.Core.Path.{_≡_};
-ghost use mathlib.Core.Bool.{cond};
+ghost use mathlib.Core.Bool.{cond, _||_};
 ghost use Prim.Native.Nat.{suc, _≤_};
 ghost use lib.ListN.{length};
 ghost use Rattle.sheet.specs.Terms.{bare};
@@ -102,37 +102,49 @@ fn outstandings(pool: Pool, attachments: &[u64], table: &mut [u64])
     }
 }
 
-// Whether a premium date is among the count steps before a position.
-fn premium_due(accruals: &[u64], position: usize, count: usize) -> bool
-    requires { ⌜ (position ≤ length (now accruals)) × (count ≤ position) ⌝ }
-    ensures { λ r. ⌜ r ≡ dueIn (now (accruals .entry)) position count ⌝ }
+// Whether an accrual or a fraction other than 0 is among those of the count steps before a position.
+fn is_due(list: &[u64], position: usize, count: usize) -> bool
+    requires { ⌜ (position ≤ length (now list)) × (count ≤ position) ⌝ }
+    ensures { λ r. ⌜ r ≡ dueIn (now (list .entry)) position count ⌝ }
 {
     let mut done = 0;
     while done < count {
         done += 1;
-        if accruals[position - done] != 0 {
+        if list[position - done] != 0 {
             return true;
         }
     }
     false
 }
 
-// What is outstanding, for a walk that meets a premium date; without one the table stays as it is.
+// Whether premium is paid in one of those steps: on a date, or up to a default.
+fn any_due(accruals: &[u64], elapsed: &[u64], position: usize, count: usize) -> bool
+    requires { ⌜ (position ≤ length (now accruals)) × (position ≤ length (now elapsed)) × (count ≤ position) ⌝ }
+    ensures { λ r. ⌜ r ≡ (dueIn (now (accruals .entry)) position count || dueIn (now (elapsed .entry)) position count) ⌝ }
+{
+    if is_due(accruals, position, count) {
+        return true;
+    }
+    is_due(elapsed, position, count)
+}
+
+// What is outstanding, for a walk in which premium is paid; without any the table stays as it is.
 pub fn outstandings_due(
     pool: Pool,
     attachments: &[u64],
     accruals: &[u64],
+    elapsed: &[u64],
     position: usize,
     count: usize,
     table: &mut [u64],
 )
     requires { ⌜ TranchesWithin (bare pool (now attachments)) × (length (now table) ≡ rowLength (bare pool (now attachments))) ⌝ }
-    requires { ⌜ (position ≤ length (now accruals)) × (count ≤ position) ⌝ }
+    requires { ⌜ (position ≤ length (now accruals)) × (position ≤ length (now elapsed)) × (count ≤ position) ⌝ }
     ensures { λ _. ⌜ now (table .exit)
-        ≡ cond (dueIn (now (accruals .entry)) position count)
+        ≡ cond (dueIn (now (accruals .entry)) position count || dueIn (now (elapsed .entry)) position count)
         (rowOf (bare pool (now (attachments .entry))) (outstandingOf (bare pool (now (attachments .entry))))) (now (table .entry)) ⌝ }
 {
-    if premium_due(accruals, position, count) {
+    if any_due(accruals, elapsed, position, count) {
         outstandings(pool, attachments, table);
     }
 }

@@ -170,19 +170,19 @@ payment-last x j k h = rw (le-ltb k (x .names) h)
 
 -- ---- no list but the attachments counts
 
-module _ (pool : Pool) (attachments starts hazards discounts accruals : List ℕ) where
-  pub loss-bare : lossOf (bare pool attachments) ≡ lossOf (termsOf pool attachments starts hazards discounts accruals)
+module _ (pool : Pool) (attachments starts hazards discounts accruals elapsed : List ℕ) where
+  pub loss-bare : lossOf (bare pool attachments) ≡ lossOf (termsOf pool attachments starts hazards discounts accruals elapsed)
   unfolding lossOf poolLossOf
   loss-bare = refl
 
-  pub outstanding-bare : outstandingOf (bare pool attachments) ≡ outstandingOf (termsOf pool attachments starts hazards discounts accruals)
+  pub outstanding-bare : outstandingOf (bare pool attachments) ≡ outstandingOf (termsOf pool attachments starts hazards discounts accruals elapsed)
   unfolding outstandingOf poolLossOf poolRecoveryOf
   outstanding-bare = refl
 
-  pub payment-bare : paymentOf (bare pool attachments) ≡ paymentOf (termsOf pool attachments starts hazards discounts accruals)
+  pub payment-bare : paymentOf (bare pool attachments) ≡ paymentOf (termsOf pool attachments starts hazards discounts accruals elapsed)
   unfolding paymentOf lossOf poolLossOf
   payment-bare = refl
 
-  pub ceiling-bare : defaultMost (bare pool attachments) ≡ defaultMost (termsOf pool attachments starts hazards discounts accruals)
+  pub ceiling-bare : defaultMost (bare pool attachments) ≡ defaultMost (termsOf pool attachments starts hazards discounts accruals elapsed)
   unfolding defaultMost lossOf poolLossOf widthOf
   ceiling-bare = refl

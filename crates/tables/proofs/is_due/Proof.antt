@@ -1,16 +1,16 @@
--- `tables::premium_due` meets its contract. No premium date is among the steps passed.
+-- `tables::is_due` meets its contract. Nothing is due in the steps passed.
 use borrow.Author.Needs.{needs}
 use Prim.Native.Nat.{_-_, _≤_}
 use native.Mathlib.Omega.{arith}
 use Rattle.tables.proofs.Due.{Undue, undue-none, undue-more, due-found, due-none}
-use Rattle.tables.proofs.premium_due.Statement.{statement}
-use Rattle.tables.proofs.premium_due.Tie as tie
+use Rattle.tables.proofs.is_due.Statement.{statement}
+use Rattle.tables.proofs.is_due.Tie as tie
 
 abbrev Inv-loop : tie.InvT-loop
-Inv-loop accruals position count done₀ done = (done ≤ count) × Undue accruals position done
+Inv-loop list position count done₀ done = (done ≤ count) × Undue list position done
 
 abbrev μ-loop : tie.MeasureT-loop
-μ-loop accruals position count done₀ done = count - done
+μ-loop list position count done₀ done = count - done
 
 loop-holds : tie.Need-loop-holds Inv-loop μ-loop
 loop-holds c = (omega arith, undue-none _ _)
@@ -39,8 +39,8 @@ loop-again c = (omega arith, undue-more _ _ (c .before .before .before .loop .in
 returns-2 : tie.Need-returns-2 Inv-loop μ-loop
 returns-2 c = due-none _ _ (c .loop-test .left) (c .before .loop .inv .1)
 
-pub premium-due-spec : {M : Type 1} → statement M
-premium-due-spec =
+pub is-due-spec : {M : Type 1} → statement M
+is-due-spec =
     tie.close
     (tie.spec
     Inv-loop
