@@ -8,18 +8,18 @@ use native.Mathlib.Decide.{decLt}
 use lib.ListN.{length, getD, drop}
 use lib.Arith.{digits-lt}
 use Rattle.cash.specs.Units.{B}
-use Rattle.cash.specs.Losses.{defaultPayment, premiumPayment}
-use Rattle.cash.proofs.Losses.{premium-payment-most}
+use Rattle.cash.specs.Losses.{defaultPayment, premiumPayment, elapsedPayment}
+use Rattle.cash.proofs.Losses.{premium-payment-most, elapsed-payment-most}
 use Rattle.tree.specs.Paths.{survive, default}
 use Rattle.tree.specs.Backward.{rollNode, Leg}
-use Rattle.tree.specs.Legs.{defaultCash, premiumCash}
+use Rattle.tree.specs.Legs.{defaultCash, premiumCash, elapsedCash}
 use Rattle.sheet.specs.Terms.{Terms, sumOf}
 use Rattle.sheet.specs.Limits.{TermsWithin}
 use Rattle.sheet.specs.Periods.{hazardsInto}
-use Rattle.sheet.proofs.Limits.{hazard-most, discount-most}
+use Rattle.sheet.proofs.Limits.{hazard-most, discount-most, elapsed-most}
 use Rattle.sheet.proofs.Periods.{hazards-long}
-use Rattle.tree.specs.Sheet.{hazardOf, discountOf, accrualOf, lossOf, outstandingOf, defaultOf, premiumOf}
-use Rattle.tree.proofs.Sheets.{hazard-sure, loss-rises, outstanding-within}
+use Rattle.tree.specs.Sheet.{hazardOf, discountOf, accrualOf, elapsedOf, lossOf, outstandingOf, defaultOf, premiumOf}
+use Rattle.tree.proofs.Sheets.{hazard-sure, loss-rises, outstanding-within, outstanding-less}
 use Rattle.rows.specs.Tables.{tab, entry, grid}
 use Rattle.rows.specs.Rows.{rowLength, nodeIn, rowOf, rolled, rolledBack}
 use Rattle.rows.specs.Kernels.{rolledIn, accruedAt, paymentOf, RowsFit}
@@ -73,17 +73,21 @@ module _ (x : Terms) (l : TermsWithin x) (i : ℕ) where
       (λ j k p h. sym (add-zero _))
       q
 
-  pub premium-step : (row out es none zs : List ℕ) → length row ≡ rowLength x → out ≡ rowOf x (outstandingOf x) → ((n : ℕ) → getD none n 0 ≡ 0)
+  -- a table that pays as what is outstanding would
+  abbrev Earns : List ℕ → Type 0
+  Earns earned = (j k : ℕ) → j ≤ x .tranches → k < x .names → nodeIn x earned j k ≡ elapsedPayment (getD (x .elapsed) i 0) (outstandingOf x j k) (outstandingOf x j (suc k))
+
+  pub premium-step : (row out es earned zs : List ℕ) → length row ≡ rowLength x → out ≡ rowOf x (outstandingOf x) → Earns earned
       → es ≡ tab (length row) (accruedAt (getD (x .accruals) i 0) out row)
-      → zs ≡ grid (suc (x .tranches)) (suc (x .names)) (rolledIn (suc (x .names)) (hazardsInto x (suc i)) (getD (x .discounts) i 0) none es)
+      → zs ≡ grid (suc (x .tranches)) (suc (x .names)) (rolledIn (suc (x .names)) (hazardsInto x (suc i)) (getD (x .discounts) i 0) earned es)
       → zs ≡ rolled x (premiumOf x) i row
-  unfolding premiumOf premiumCash accrualOf nodeIn entry
-  premium-step row out es none zs long o z e q =
+  unfolding premiumOf premiumCash elapsedCash accrualOf elapsedOf
+  premium-step row out es earned zs long o z e q =
       let at-node : (j k : ℕ) → j ≤ x .tranches → k ≤ x .names → nodeIn x es j k ≡ nodeIn x row j k + premiumPayment (getD (x .accruals) i 0) (outstandingOf x j k) =
       accrued-node x row out es (getD (x .accruals) i 0) long o e in
-      kernel (premiumOf x) row es none zs
-      (λ j k p h. omega (arith, z (j * suc (x .names) + k), at-node j (suc k) p h))
-      (λ j k p h. at-node j k p h)
+      kernel (premiumOf x) row es earned zs
+      (λ j k p h. omega (arith, z j k p h, at-node j (suc k) p h))
+      (λ j k p h. omega (arith, at-node j k p h))
       q
 
 -- ---- bounds
@@ -103,7 +107,7 @@ abbrev DefaultsLow : Terms → List ℕ → Type 0
 DefaultsLow x row = (j k : ℕ) → j ≤ x .tranches → k ≤ x .names → nodeIn x row j k + lossOf x j k ≤ 2 * B
 
 abbrev PremiumsLow : Terms → ℕ → List ℕ → Type 0
-PremiumsLow x i row = (j k : ℕ) → j ≤ x .tranches → k ≤ x .names → nodeIn x row j k ≤ 8 * B + sumOf (drop i (x .accruals))
+PremiumsLow x i row = (j k : ℕ) → j ≤ x .tranches → k ≤ x .names → nodeIn x row j k ≤ 7 * B + outstandingOf x j k + sumOf (drop i (x .accruals))
 
 module _ (x : Terms) (l : TermsWithin x) (i : ℕ) (inside : i < x .steps) where
   discount-low : discountOf x (suc i) ≤ B
@@ -115,6 +119,9 @@ module _ (x : Terms) (l : TermsWithin x) (i : ℕ) (inside : i < x .steps) where
 
   pays-low : (j k : ℕ) → premiumPayment (getD (x .accruals) i 0) (outstandingOf x j k) ≤ getD (x .accruals) i 0
   pays-low j k = premium-payment-most _ _ (outstanding-within x (l .tranches) j k)
+
+  earns-low : (j k : ℕ) → elapsedPayment (getD (x .elapsed) i 0) (outstandingOf x j k) (outstandingOf x j (suc k)) ≤ outstandingOf x j k - outstandingOf x j (suc k)
+  earns-low j k = elapsed-payment-most _ _ _ (elapsed-most x l i)
 
   -- what a default pays comes off what may stand after it
   paid-low : (row : List ℕ) → DefaultsLow x row → (j k : ℕ) → j ≤ x .tranches → k < x .names →
@@ -130,11 +137,11 @@ module _ (x : Terms) (l : TermsWithin x) (i : ℕ) (inside : i < x .steps) where
       omega (arith, rolled-entry x (defaultOf x) i row j k p q, most, low j k p q)
 
   pub premiums-keep : (row : List ℕ) → PremiumsLow x (suc i) row → PremiumsLow x i (rolled x (premiumOf x) i row)
-  unfolding premiumOf premiumCash accrualOf
+  unfolding premiumOf premiumCash elapsedCash accrualOf elapsedOf
   premiums-keep row low j k p q =
       rw (rolled-entry x (premiumOf x) i row j k p q)
       (node-below x l (suc i) k (discountOf x (suc i)) _ _ _ discount-low
-      (λ h. omega (arith, after-is, pays-low j (suc k), low j (suc k) p h))
+      (λ h. omega (arith, after-is, pays-low j (suc k), earns-low j k, outstanding-less x (l .tranches) j k, low j (suc k) p h))
       (omega (arith, after-is, pays-low j k, low j k p q)))
 
   pub defaults-fit : (row pay : List ℕ) → length row ≡ rowLength x → DefaultsLow x row → pay ≡ rowOf x (paymentOf x)
@@ -152,21 +159,30 @@ module _ (x : Terms) (l : TermsWithin x) (i : ℕ) (inside : i < x .steps) where
             omega (arith, paid-low row low j k (omega arith) q, ap (λ (r : List ℕ). nodeIn x r j k) e, node-row x (paymentOf x) j k (omega arith) (omega arith), payment-before x j k q);
       }
 
-  pub premiums-fit : (row out es none : List ℕ) → length row ≡ rowLength x → PremiumsLow x (suc i) row → out ≡ rowOf x (outstandingOf x)
-      → length none ≡ rowLength x → ((n : ℕ) → getD none n 0 ≡ 0) → es ≡ tab (length row) (accruedAt (getD (x .accruals) i 0) out row)
-      → RowsFit (suc (x .tranches)) (x .names) es (hazardsInto x (suc i)) (getD (x .discounts) i 0) none
-  unfolding nodeIn entry
-  premiums-fit row out es none long low o none-long z e =
-      let most : (j k : ℕ) → j ≤ x .tranches → k ≤ x .names → nodeIn x es j k ≤ 18 * B =
+  pub premiums-fit : (row out es earned : List ℕ) → length row ≡ rowLength x → PremiumsLow x (suc i) row → out ≡ rowOf x (outstandingOf x)
+      → length earned ≡ rowLength x → Earns x l i earned → es ≡ tab (length row) (accruedAt (getD (x .accruals) i 0) out row)
+      → RowsFit (suc (x .tranches)) (x .names) es (hazardsInto x (suc i)) (getD (x .discounts) i 0) earned
+  unfolding nodeIn
+  premiums-fit row out es earned long low o earned-long z e =
+      -- below its own bound one step earlier, and so below 18 B
+      let most : (j k : ℕ) → j ≤ x .tranches → k ≤ x .names → nodeIn x es j k ≤ 17 * B + outstandingOf x j k =
       λ j k p q. omega (arith, accrued-node x row out es (getD (x .accruals) i 0) long o e j k p q, pays-low j k, low j k p q, after-is, sum-drop-most i (x .accruals), l .accruals .total) in
       record {
         hazards-long = hazards-long x (l .curves) (suc i);
         rows-long = accrued-long x row out es _ long e;
-        cash-long = none-long;
+        cash-long = earned-long;
         hazard-most = λ k. rw (hazard-is x (l .curves) (suc i) k) (hazard-sure x (hazard-most x l) (suc i) k);
         discount-most = discount-most x l i;
-        survived-most = λ j k p q. most j k (omega arith) q;
-        defaulted-most = λ j k p q. omega (arith, most j (suc k) (omega arith) q, z (j * suc (x .names) + k));
+        survived-most = λ j k p q. omega (arith, most j k (omega arith) q, outstanding-within x (l .tranches) j k);
+        defaulted-most = λ j k p q.
+            omega (
+              arith,
+              most j (suc k) (omega arith) q,
+              z j k (omega arith) q,
+              earns-low j k,
+              outstanding-less x (l .tranches) j k,
+              outstanding-within x (l .tranches) j k,
+            );
       }
 
   -- the premium to be added fits, place by place
@@ -174,7 +190,7 @@ module _ (x : Terms) (l : TermsWithin x) (i : ℕ) (inside : i < x .steps) where
   unfolding nodeIn
   premiums-low row long low n h =
       every (λ y. y ≤ 18 * B) (suc (x .tranches)) (suc (x .names)) row (omega arith)
-      (λ j k p q. omega (arith, low j k (omega arith) (omega arith), sum-drop-most (suc i) (x .accruals), l .accruals .total)) n (rw long at h)
+      (λ j k p q. omega (arith, low j k (omega arith) (omega arith), outstanding-within x (l .tranches) j k, sum-drop-most (suc i) (x .accruals), l .accruals .total)) n (rw long at h)
 
 -- ---- a walk keeps its rows so that they can be walked on
 

@@ -6,6 +6,7 @@ ghost use Rattle.sheet.specs.Spans.{termsIn};
 ghost use Rattle.tree.specs.Sheet.{defaultOf, premiumOf};
 ghost use Rattle.rows.specs.Rows.{rowLength, rolledBack};
 ghost use Rattle.rows.specs.Rollable.{Rollable};
+use elapsed::earn;
 use periods::hazards_from;
 use rows::step::accrue;
 use rows::step::roll_all;
@@ -15,8 +16,8 @@ use sheet::part;
 use tables::outstandings_due;
 use tables::payments;
 
-// Fills the tables of payments and, if a premium date is met, of what is outstanding, and takes both rows so many steps back.
-// The premium leg has no default cash: `none` holds zeros.
+// Fills the tables of payments and, if premium is paid, of what is outstanding, and takes both rows so many steps back.
+// The default cash of the premium leg stands in `earned`, which holds that of a fraction of 0 at first.
 fn walk_with_tables(
     sheet: Sheet,
     numbers: &[u64],
@@ -26,12 +27,12 @@ fn walk_with_tables(
     count: usize,
     paid: &mut [u64],
     left: &mut [u64],
-    none: &[u64],
+    earned: &mut [u64],
 )
     requires { ⌜ Rollable (termsIn sheet (now numbers)) (now defaults) (now premiums) position count ⌝ }
     requires { ⌜ length (now paid) ≡ rowLength (termsIn sheet (now numbers)) ⌝ }
     requires { ⌜ (length (now left) ≡ rowLength (termsIn sheet (now numbers))) × ((i : ℕ) → getD (now left) i 0 ≡ 0) ⌝ }
-    requires { ⌜ (length (now none) ≡ rowLength (termsIn sheet (now numbers))) × ((i : ℕ) → getD (now none) i 0 ≡ 0) ⌝ }
+    requires { ⌜ (length (now earned) ≡ rowLength (termsIn sheet (now numbers))) × ((i : ℕ) → getD (now earned) i 0 ≡ 0) ⌝ }
     ensures { λ _. ⌜ now (defaults .exit)
         ≡ rolledBack (termsIn sheet (now (numbers .entry))) (defaultOf (termsIn sheet (now (numbers .entry)))) position count
         (now (defaults .entry)) ⌝ }
@@ -45,21 +46,26 @@ fn walk_with_tables(
     let hazards = part(sheet.hazards, numbers);
     let discounts = part(sheet.discounts, numbers);
     let accruals = part(sheet.accruals, numbers);
+    let elapsed = part(sheet.elapsed, numbers);
     payments(pool, attachments, paid);
-    outstandings_due(pool, attachments, accruals, position, count, left);
+    outstandings_due(pool, attachments, accruals, elapsed, position, count, left);
+    let mut held = 0;
     let mut done = 0;
     while done < count {
         done += 1;
         let i = position - done;
         let discount = discounts[i];
         let accrual = accruals[i];
+        let fraction = elapsed[i];
         let names = sheet.pool.names;
         let tranches = sheet.pool.tranches;
         let a = hazards_from(names, starts, i + 1);
         let e = a + names;
         roll_all(names, tranches, &hazards[a..e], discount, paid, defaults);
         accrue(accrual, left, premiums);
-        roll_all(names, tranches, &hazards[a..e], discount, none, premiums);
+        earn(names, tranches, held, fraction, left, earned);
+        held = fraction;
+        roll_all(names, tranches, &hazards[a..e], discount, earned, premiums);
     }
 }
 
@@ -82,7 +88,7 @@ pub fn walk_back(
 {
     let mut paid = [0u64; ROW_MOST];
     let mut left = [0u64; ROW_MOST];
-    let none = [0u64; ROW_MOST];
+    let mut earned = [0u64; ROW_MOST];
     let size = (sheet.pool.tranches + 1) * (sheet.pool.names + 1);
     walk_with_tables(
         sheet,
@@ -93,6 +99,6 @@ pub fn walk_back(
         count,
         &mut paid[..size],
         &mut left[..size],
-        &none[..size],
+        &mut earned[..size],
     );
 }

@@ -1,18 +1,20 @@
 -- Laws of what a default pays of the premium earned up to it.
-use Prim.Native.Nat.{ℕ, suc, _+_, _*_, _≤_, _<_}
+use Prim.Native.Nat.{ℕ, suc, _+_, _-_, _*_, _≤_, _<_}
 use mathlib.Core.Path.{_≡_, refl, ap, sym, _∙_}
-use mathlib.Core.Bool.{cond}
+use mathlib.Core.Bool.{Bool, true, false, cond}
 use mathlib.Core.List.{List}
 use native.Mathlib.Decide.{decLt}
+use native.Mathlib.Nat.{zero-mul}
 use native.Mathlib.Numerals.{add-one}
 use native.Mathlib.Omega.{arith}
 use lib.ListN.{length, getD}
 use lib.Dec.{ltb}
 use borrow.Author.Tests.{lt-ltb, le-ltb}
+use Rattle.cash.specs.Units.{B, half}
 use Rattle.cash.specs.Losses.{elapsedPayment}
 use Rattle.rows.specs.Tables.{tab, entry, grid}
 use Rattle.rows.specs.Kernels.{earnedAt, earnedIn, Falling, FallingRows}
-use Rattle.rows.proofs.Tables.{getD-tab, length-tab}
+use Rattle.rows.proofs.Tables.{getD-tab, length-tab, is-grid}
 use Rattle.rows.proofs.Sweep.{put}
 use Rattle.rows.proofs.Parts.{part, read-long, read-entry, Passed, passed-more}
 
@@ -33,6 +35,22 @@ pub node-before : (names fraction : ℕ) (outs : List ℕ) (j k : ℕ) → k < n
     earnedIn names fraction outs j k ≡ elapsedPayment fraction (entry (suc names) outs j k) (entry (suc names) outs j (suc k))
 unfolding earnedIn
 node-before names fraction outs j k h = rw (lt-ltb k names h) refl
+
+-- a fraction of 0 pays nothing, so a table of zeros is that of 0
+none-paid : (names : ℕ) (outs : List ℕ) (j k : ℕ) → earnedIn names 0 outs j k ≡ 0
+unfolding earnedIn elapsedPayment half B
+none-paid names outs j k = go (ltb k names)
+  where
+    none : (y : ℕ) → half (0 * y) ≡ 0
+    none y = rw (zero-mul y) refl
+
+    go : (b : Bool) → cond b (half (0 * (entry (suc names) outs j k - entry (suc names) outs j (suc k)))) 0 ≡ 0
+    go true = none _
+    go false = refl
+
+pub none-earned : (r names : ℕ) (table outs : List ℕ) → length table ≡ r * suc names → ((i : ℕ) → getD table i 0 ≡ 0) → table ≡ grid r (suc names) (earnedIn names 0 outs)
+unfolding entry
+none-earned r names table outs long zeros = is-grid table r (suc names) _ (omega arith) long (λ j k h q. zeros (j * suc names + k) ∙ sym (none-paid names outs j k))
 
 -- tranche j starts at a and is m long
 module _ {r n : ℕ} {outs : List ℕ} (falling : FallingRows r n outs) {j a : ℕ} (inside : j < r) (a-is : a ≡ j * suc n) (m : ℕ) (m-is : m ≡ suc n) where

@@ -38,8 +38,8 @@ array-borrow-prefix-left c = fits (sized c)
 slice-aggregate-walk-with-tables-2 : tie.Need-slice-aggregate-walk-with-tables-2
 slice-aggregate-walk-with-tables-2 c = front _ _ 1134 refl (fits (sized (c .before)))
 
-array-share-prefix-none : tie.Need-array-share-prefix-none
-array-share-prefix-none c = fits (sized (c .before))
+array-borrow-prefix-earned : tie.Need-array-borrow-prefix-earned
+array-borrow-prefix-earned c = fits (sized (c .before))
 
 slice-aggregate-walk-with-tables-3 : tie.Need-slice-aggregate-walk-with-tables-3
 slice-aggregate-walk-with-tables-3 c = front _ _ 1134 refl (fits (sized (c .before .before)))
@@ -67,7 +67,7 @@ same-length-2 : tie.Need-same-length-2
 same-length-2 c = search needs
 
 returns : tie.Need-returns
-returns c = c .before .before .before .before .before .before .walk-with-tables .ensures
+returns c = c .before .before .before .before .before .before .before .walk-with-tables .ensures
 
 pub walk-back-spec : {M : Type 1} → statement M
 walk-back-spec =
@@ -80,7 +80,7 @@ walk-back-spec =
     slice-aggregate-walk-with-tables
     array-borrow-prefix-left
     slice-aggregate-walk-with-tables-2
-    array-share-prefix-none
+    array-borrow-prefix-earned
     slice-aggregate-walk-with-tables-3
     walk-with-tables-requires
     same-length
