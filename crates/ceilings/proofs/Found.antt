@@ -1,5 +1,5 @@
 -- Laws of a search for an entry over its ceiling.
-use Prim.Native.Nat.{ℕ, zero, suc, _+_, _*_, _/_, _%_, _≤_, _<_}
+use Prim.Native.Nat.{ℕ, zero, suc, _+_, _-_, _*_, _/_, _%_, _≤_, _<_}
 use mathlib.Core.Path.{_≡_, refl, ap, sym, _∙_}
 use mathlib.Core.Bool.{Bool, true, false, _||_}
 use mathlib.Core.List.{List, []}
@@ -7,8 +7,9 @@ use native.Mathlib.Omega.{arith}
 use native.Mathlib.Decide.{ℕ-discrete}
 use lib.ListN.{length, getD, drop}
 use lib.Arith.{digits-lt, digits-div, digits-mod}
-use lib.Dec.{ltb}
+use lib.Dec.{ltb, lit≤}
 use borrow.Author.Tests.{ltb-false, lt-ltb, le-ltb}
+use Rattle.cash.specs.Units.{B}
 use Rattle.sheet.specs.Terms.{Terms, sumOf, termsOf, bare}
 use Rattle.sheet.specs.Limits.{TermsWithin}
 use Rattle.tree.specs.Sheet.{poolLossOf, lossOf, widthOf, defaultMost, premiumMost}
@@ -52,20 +53,20 @@ over-none r w f c =
 
 -- Whether one of the two legs is over its ceiling.
 abbrev pub overAt : Terms → ℕ → List ℕ → List ℕ → ℕ → ℕ → Bool
-overAt x most d p j k = ltb (defaultMost x j k) (entry (suc (x .names)) d j k) || ltb most (entry (suc (x .names)) p j k)
+overAt x most d p j k = ltb (defaultMost x j k) (entry (suc (x .names)) d j k) || ltb (most + (x .names - k)) (entry (suc (x .names)) p j k)
 
 module _ (x : Terms) (most : ℕ) (d p : List ℕ) (j k place : ℕ) (place-is : place ≡ j * suc (x .names) + k) where
   pub over-default : (left : ℕ) → left ≡ defaultMost x j k → left < getD d place 0 → overAt x most d p j k ≡ true
   unfolding entry
-  over-default left e h = met-left (ltb (defaultMost x j k) (entry (suc (x .names)) d j k)) (ltb most (entry (suc (x .names)) p j k)) (lt-ltb _ _ (rw (e, place-is) at h))
+  over-default left e h = met-left (ltb (defaultMost x j k) (entry (suc (x .names)) d j k)) (ltb (most + (x .names - k)) (entry (suc (x .names)) p j k)) (lt-ltb _ _ (rw (e, place-is) at h))
 
-  pub over-premium : most < getD p place 0 → overAt x most d p j k ≡ true
+  pub over-premium : most + (x .names - k) < getD p place 0 → overAt x most d p j k ≡ true
   unfolding entry
-  over-premium h = met-right (ltb (defaultMost x j k) (entry (suc (x .names)) d j k)) (ltb most (entry (suc (x .names)) p j k)) (lt-ltb _ _ (rw place-is at h))
+  over-premium h = met-right (ltb (defaultMost x j k) (entry (suc (x .names)) d j k)) (ltb (most + (x .names - k)) (entry (suc (x .names)) p j k)) (lt-ltb _ _ (rw place-is at h))
 
-  pub under-both : (left : ℕ) → left ≡ defaultMost x j k → getD d place 0 ≤ left → getD p place 0 ≤ most → overAt x most d p j k ≡ false
+  pub under-both : (left : ℕ) → left ≡ defaultMost x j k → getD d place 0 ≤ left → getD p place 0 ≤ most + (x .names - k) → overAt x most d p j k ≡ false
   unfolding entry
-  under-both left e h q = neither (ltb (defaultMost x j k) (entry (suc (x .names)) d j k)) (ltb most (entry (suc (x .names)) p j k)) (le-ltb _ _ (rw (e, place-is) at h)) (le-ltb _ _ (rw place-is at q))
+  under-both left e h q = neither (ltb (defaultMost x j k) (entry (suc (x .names)) d j k)) (ltb (most + (x .names - k)) (entry (suc (x .names)) p j k)) (le-ltb _ _ (rw (e, place-is) at h)) (le-ltb _ _ (rw place-is at q))
 
 -- ---- one search of both rows is a search of each
 
@@ -80,31 +81,37 @@ any-or zero f g = refl
 any-or (suc n) f g = ap (λ (b : Bool). b || (f n || g n)) (any-or n f g) ∙ or-swap (any n f) (any n g) (f n) (g n)
 
 -- What the search finds is that the rows are soiled.
-pub soiled-is : (pool : Pool) (attachments starts hazards discounts accruals d p : List ℕ) (i most : ℕ) → most ≡ sumOf (drop i accruals) →
-    any (suc (pool .tranches)) (λ j. any (suc (pool .names)) (λ k. overAt (bare pool attachments) most d p j k))
-    ≡ soiled (termsOf pool attachments starts hazards discounts accruals) i d p
-unfolding soiled anyOver nodeIn premiumMost
-soiled-is pool attachments starts hazards discounts accruals d p i most e =
-    let x : Terms = termsOf pool attachments starts hazards discounts accruals in
-    let r : ℕ = suc (pool .tranches) in
-    let w : ℕ = suc (pool .names) in
-    (λ t.
-    any r (λ j.
-    any w (λ k. ltb (ceiling-bare pool attachments starts hazards discounts accruals t j k) (entry w d j k) || ltb (e t) (entry w p j k))))
-    ∙ any-cong r _ _ (λ j h. any-or w (λ k. ltb (defaultMost x j k) (entry w d j k)) (λ k. ltb (sumOf (drop i accruals)) (entry w p j k)))
-    ∙ any-or r (λ j. any w (λ k. ltb (defaultMost x j k) (entry w d j k))) (λ j. any w (λ k. ltb (sumOf (drop i accruals)) (entry w p j k)))
+module _ (pool : Pool) (attachments starts hazards discounts accruals elapsed d p : List ℕ) (i most : ℕ) (e : most ≡ sumOf (drop i accruals) + 2 * (pool .steps - i)) where
+  abbrev whole : Terms
+  whole = termsOf pool attachments starts hazards discounts accruals elapsed
+
+  most-is : (k : ℕ) → most + (pool .names - k) ≡ premiumMost whole i k
+  unfolding premiumMost
+  most-is k = omega (arith, e)
+
+  pub soiled-is :
+      any (suc (pool .tranches)) (λ j. any (suc (pool .names)) (λ k. overAt (bare pool attachments) most d p j k)) ≡ soiled whole i d p
+  unfolding soiled anyOver nodeIn
+  soiled-is =
+      let r : ℕ = suc (pool .tranches) in
+      let w : ℕ = suc (pool .names) in
+      (λ t.
+      any r (λ j.
+      any w (λ k. ltb (ceiling-bare pool attachments starts hazards discounts accruals elapsed t j k) (entry w d j k) || ltb (most-is k t) (entry w p j k))))
+      ∙ any-cong r _ _ (λ j h. any-or w (λ k. ltb (defaultMost whole j k) (entry w d j k)) (λ k. ltb (premiumMost whole i k) (entry w p j k)))
+      ∙ any-or r (λ j. any w (λ k. ltb (defaultMost whole j k) (entry w d j k))) (λ j. any w (λ k. ltb (premiumMost whole i k) (entry w p j k)))
 
 -- The lists that set no ceiling play no part, and the others may be parts of the sheet's numbers.
-module _ (pool : Pool) (attachments starts hazards discounts accruals a c : List ℕ) (a-is : a ≡ attachments) (c-is : c ≡ accruals) where
+module _ (pool : Pool) (attachments starts hazards discounts accruals elapsed a c : List ℕ) (a-is : a ≡ attachments) (c-is : c ≡ accruals) where
   abbrev x : Terms
-  x = termsOf pool attachments starts hazards discounts accruals
+  x = termsOf pool attachments starts hazards discounts accruals elapsed
 
-  soiled-whole : (i : ℕ) (d p : List ℕ) → soiled (termsOf pool attachments [] [] [] accruals) i d p ≡ soiled x i d p
+  soiled-whole : (i : ℕ) (d p : List ℕ) → soiled (termsOf pool attachments [] [] [] accruals []) i d p ≡ soiled x i d p
   unfolding soiled anyOver nodeIn defaultMost widthOf lossOf poolLossOf premiumMost
   soiled-whole i d p = refl
 
-  pub soiled-part : (i : ℕ) (d p : List ℕ) → soiled (termsOf pool a [] [] [] c) i d p ≡ soiled x i d p
-  soiled-part i d p = (λ t. soiled (termsOf pool (a-is t) [] [] [] (c-is t)) i d p) ∙ soiled-whole i d p
+  pub soiled-part : (i : ℕ) (d p : List ℕ) → soiled (termsOf pool a [] [] [] c []) i d p ≡ soiled x i d p
+  soiled-part i d p = (λ t. soiled (termsOf pool (a-is t) [] [] [] (c-is t) []) i d p) ∙ soiled-whole i d p
 
 -- ---- rows that keep to their ceilings can be walked back
 
@@ -112,6 +119,10 @@ none-over : (x : Terms) (most : ℕ → ℕ → ℕ) (row : List ℕ) → anyOve
 unfolding anyOver
 none-over x most row e j k p q =
     ltb-false _ _ (any-none (suc (x .names)) _ (any-none (suc (x .tranches)) _ e j (omega arith)) k (omega arith))
+
+B-most : 7425 ≤ B
+unfolding B
+B-most = lit≤ tt
 
 pub unsoiled-rollable : (x : Terms) (d p : List ℕ) (position count : ℕ) → TermsWithin x → length d ≡ rowLength x → length p ≡ rowLength x
     → position ≤ x .steps → count ≤ position → soiled x position d p ≡ false → Rollable x d p position count
@@ -125,5 +136,6 @@ unsoiled-rollable x d p position count l dl pl a b e =
       premiums-long = pl;
       defaults-most = λ j k u v.
           omega (arith, none-over x (defaultMost x) d (or-left (anyOver x (defaultMost x) d) (anyOver x (λ j k. premiumMost x position k) p) e) j k u v, loss-most x j k v, width-most x (l .tranches) j);
-      premiums-most = λ j k u v. omega (arith, none-over x (λ j k. premiumMost x position k) p (or-right (anyOver x (defaultMost x) d) (anyOver x (λ j k. premiumMost x position k) p) e) j k u v);
+      premiums-most = λ j k u v.
+          omega (arith, l .tranches .pool .names, l .tranches .pool .steps, B-most, none-over x (λ j k. premiumMost x position k) p (or-right (anyOver x (defaultMost x) d) (anyOver x (λ j k. premiumMost x position k) p) e) j k u v);
     }

@@ -1,7 +1,7 @@
 // The search for an entry of a walk's rows over its ceiling.
 ghost use mathlib.Core.Path.{_≡_};
 ghost use mathlib.Core.Bool.{_||_};
-ghost use Prim.Native.Nat.{suc, _*_, _≤_};
+ghost use Prim.Native.Nat.{suc, _+_, _-_, _*_, _≤_};
 ghost use mathlib.Core.List.{[]};
 ghost use lib.ListN.{length, drop};
 ghost use lib.Dec.{ltb};
@@ -18,7 +18,7 @@ use sheet::Pool;
 use sheet::Sheet;
 use sheet::part;
 
-// The accruals after a step: the ceiling of every premium leg there.
+// The accruals after a step.
 fn accruals_after(accruals: &[u64], position: usize) -> u64
     requires { ⌜ sumOf (now accruals) ≤ 10 * B ⌝ }
     ensures { λ r. ⌜ r ≡ sumOf (drop position (now (accruals .entry))) ⌝ }
@@ -33,8 +33,20 @@ fn accruals_after(accruals: &[u64], position: usize) -> u64
     sum
 }
 
-// Whether an entry of one of the rows is over its ceiling: a default leg over what its tranche has left to lose, a premium leg over `most`.
-// The first one ends the search.
+// The ceiling of a premium leg at the last count: the accruals after a step, and two units for each step to come.
+fn premium_most(pool: Pool, accruals: &[u64], position: usize) -> u64
+    requires { ⌜ (sumOf (now accruals) ≤ 10 * B) × (pool .steps ≤ 3650) ⌝ }
+    ensures { λ r. ⌜ (r ≡ sumOf (drop position (now (accruals .entry))) + 2 * (pool .steps - position)) × (r ≤ 11 * B) ⌝ }
+{
+    let after = accruals_after(accruals, position);
+    if pool.steps < position {
+        return after;
+    }
+    after + 2 * ((pool.steps - position) as u64)
+}
+
+// Whether an entry of one of the rows is over its ceiling: a default leg over what its tranche has left to lose, a premium leg over `most` and a unit
+// for each name that is left. The first one ends the search.
 fn any_over(
     pool: Pool,
     attachments: &[u64],
@@ -43,13 +55,13 @@ fn any_over(
     defaults: &[u64],
     premiums: &[u64],
 ) -> bool
-    requires { ⌜ TranchesWithin (bare pool (now attachments)) × (now losses ≡ poolLosses (pool .names) (pool .recovery)) ⌝ }
+    requires { ⌜ TranchesWithin (bare pool (now attachments)) × (now losses ≡ poolLosses (pool .names) (pool .recovery)) × (most ≤ 11 * B) ⌝ }
     requires { ⌜ (length (now defaults) ≡ rowLength (bare pool (now attachments)))
         × (length (now premiums) ≡ rowLength (bare pool (now attachments))) ⌝ }
     ensures { λ r. ⌜ r
         ≡ any (suc (pool .tranches)) (λ j. any (suc (pool .names)) (λ k.
         ltb (defaultMost (bare pool (now (attachments .entry))) j k) (entry (suc (pool .names)) (now (defaults .entry)) j k)
-        || ltb most (entry (suc (pool .names)) (now (premiums .entry)) j k))) ⌝ }
+        || ltb (most + (pool .names - k)) (entry (suc (pool .names)) (now (premiums .entry)) j k))) ⌝ }
 {
     let names = pool.names;
     let tranches = pool.tranches;
@@ -66,7 +78,7 @@ fn any_over(
                 found = true;
                 break 'search;
             }
-            if most < premiums[place] {
+            if most + ((names - k) as u64) < premiums[place] {
                 found = true;
                 break 'search;
             }
@@ -92,11 +104,11 @@ fn soiled_with_losses(
     requires { ⌜ (length (now defaults) ≡ rowLength (bare pool (now attachments)))
         × (length (now premiums) ≡ rowLength (bare pool (now attachments))) ⌝ }
     ensures { λ r. ⌜ r
-        ≡ soiled (termsOf pool (now (attachments .entry)) [] [] [] (now (accruals .entry))) position (now (defaults .entry))
+        ≡ soiled (termsOf pool (now (attachments .entry)) [] [] [] (now (accruals .entry)) []) position (now (defaults .entry))
         (now (premiums .entry)) ⌝ }
 {
     tranches::pool_losses(pool.names, pool.recovery, losses);
-    let most = accruals_after(accruals, position);
+    let most = premium_most(pool, accruals, position);
     any_over(pool, attachments, losses, most, defaults, premiums)
 }
 

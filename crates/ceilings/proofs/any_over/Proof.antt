@@ -6,6 +6,7 @@ use lib.Arith.{digits-lt}
 use lib.ListN.{length}
 use native.Mathlib.Nat.{mul-le-mul}
 use native.Mathlib.Omega.{arith}
+use Rattle.cash.specs.Units.{B}
 use Rattle.sheet.specs.Terms.{Terms, bare}
 use Rattle.tree.specs.Sheet.{defaultMost}
 use Rattle.tranches.proofs.Losses.{losses-long, points-rise, ceiling-read}
@@ -110,6 +111,10 @@ mul-if1 c = omega (arith, small (turn c))
 shared-slice-read-if1 : tie.Need-shared-slice-read-if1 Inv-loop μ-loop Inv-search μ-search
 shared-slice-read-if1 c = let i = turn (c .before) in omega (arith, inside i, whose i .pre .1 .0)
 
+add-if2 : tie.Need-add-if2 Inv-loop μ-loop Inv-search μ-search
+unfolding B
+add-if2 c = let i = turn (c .before .before) in omega (arith, whose i .pre .0 .2, whose i .pre .0 .0 .pool .names)
+
 mul-if2 : tie.Need-mul-if2 Inv-loop μ-loop Inv-search μ-search
 mul-if2 c = omega (arith, small (turn (c .before .before)))
 
@@ -186,6 +191,7 @@ any-over-spec =
     left-to-lose-requires
     mul-if1
     shared-slice-read-if1
+    add-if2
     mul-if2
     shared-slice-read-if2
     add-place

@@ -37,7 +37,7 @@ soiled-with-losses-requires c κs =
     let s = start p in
     let pool = s .args .sheet .pool in (
       (
-        rw (p .before .part .ensures) (tranches-bare pool _ _ _ _ _ (s .pre .0 .tranches)),
+        rw (p .before .part .ensures) (tranches-bare pool _ _ _ _ _ _ (s .pre .0 .tranches)),
         rw (p .part2 .ensures) (s .pre .0 .accruals .total),
         sym (front _ _ 126 refl (counts p)) ∙ add-one (pool .names),
       ),
@@ -48,7 +48,7 @@ returns : tie.Need-returns
 returns c =
     let p = c .before .before .before .before in
     c .before .soiled-with-losses .ensures
-    ∙ soiled-part (start p .args .sheet .pool) _ _ _ _ _ _ _ (p .before .part .ensures) (p .part2 .ensures) _ _ _
+    ∙ soiled-part (start p .args .sheet .pool) _ _ _ _ _ _ _ _ (p .before .part .ensures) (p .part2 .ensures) _ _ _
 
 pub is-soiled-spec : {M : Type 1} → statement M
 is-soiled-spec =
