@@ -70,7 +70,7 @@ module _ (names : ℕ) (starts hazards : List ℕ) where
   module _ (fit : HazardsFit names starts hazards) where
     pub curves : CurvesFit x
     unfolding hazardSheet
-    curves = record { starts = fit .starts-fit; hazards = fit .long; discounts = refl; accruals = refl }
+    curves = record { starts = fit .starts-fit; hazards = fit .long; discounts = refl; accruals = refl; elapsed = refl }
 
     step-alike : (h k : ℕ) → stepTree (hazardsAt names starts hazards (suc h)) .hazard 1 k ≡ treeOf x .hazard (suc h) k
     unfolding stepTree treeOf hazardSheet

@@ -22,6 +22,7 @@ hazardSheet names starts hazards =
       hazards = hazards;
       discounts = [];
       accruals = [];
+      elapsed = [];
     }
 
 -- What it asks of them.
