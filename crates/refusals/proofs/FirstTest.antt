@@ -56,7 +56,7 @@ module _ (x : Brought) (lent : Bool) (more : List Test) where
   unfolding sheetTests
   sheet-joined = refl
 
-  -- Where checks 1 to 8 refuse, more tests change nothing.
+  -- Where the checks of a sheet refuse, more tests change nothing.
   pub sheet-refused : (f : Refusal) → first (sheetTests x lent []) ≡ Refused f → first (sheetTests x lent more) ≡ Refused f
   sheet-refused f e = ap first sheet-joined ∙ joined-refused (sheetTests x lent []) more f e
 

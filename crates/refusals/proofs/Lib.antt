@@ -4,3 +4,4 @@ pub mod Limits
 pub mod Meanings
 mod Trials
 pub mod OnePeriod
+pub mod DatesOnly

@@ -4,12 +4,13 @@ use mathlib.Core.Path.{_≡_}
 use mathlib.Core.Bool.{Bool, false, _||_}
 use mathlib.Core.Logic.{_↔_, Iff·trans}
 use native.Mathlib.Omega.{arith}
-use lib.ListN.{length, getD}
+use lib.ListN.{length, getD, drop}
 use Rattle.cash.specs.Units.{B}
 use Rattle.sheet.specs.Terms.{Terms, sumOf}
+use Rattle.sheet.specs.Dates.{nextAccrual}
 use Rattle.sheet.specs.Brought.{Brought}
-use Rattle.sheet.specs.Limits.{PoolInside, ListsFit, RecoveryInside, AttachmentsRise, StartsRise, HazardsInside, DiscountsInside, AccrualsInside, CouponsInside}
-use Rattle.refusals.specs.Tests.{poolBad, periodsBad, listsBad, recoveryBad, attachmentsBad, startsBad, hazardsBad, discountsBad, accrualsBad, couponsBad}
+use Rattle.sheet.specs.Limits.{PoolInside, ListsFit, RecoveryInside, AttachmentsRise, StartsRise, HazardsInside, DiscountsInside, AccrualsInside, ElapsedInside, CouponsInside}
+use Rattle.refusals.specs.Tests.{poolBad, periodsBad, listsBad, recoveryBad, attachmentsBad, startsBad, hazardsBad, discountsBad, accrualsBad, elapsedBad, couponsBad}
 use Rattle.refusals.proofs.Judged.{or-fine, most-fine, rise-fine, outside-fine, differs-fine, some-fine, any-fine}
 
 module _ (x : Terms) where
@@ -49,19 +50,34 @@ module _ (x : Terms) where
       Iff·trans (or-fine (or-fine (any-fine (x .steps) (λ i. most-fine B (getD (x .accruals) i 0))) (most-fine (10 * B) (sumOf (x .accruals)))) (some-fine (getD (x .accruals) (pred (x .steps)) 0)))
       (λ m. record { most = m .0 .0; total = m .0 .1; last = m .1 }, λ p. ((p .most, p .total), p .last))
 
+  pub elapsed-fine : (elapsedBad x ≡ false) ↔ ElapsedInside x
+  unfolding elapsedBad
+  elapsed-fine = any-fine (x .steps) (λ i. most-fine (nextAccrual (drop i (x .accruals))) (getD (x .elapsed) i 0))
+
 module _ (x : Brought) where
   pub lists-fine : (listsBad x ≡ false) ↔ ListsFit x
   unfolding listsBad periodsBad
   lists-fine =
       Iff·trans
-      (or-fine (or-fine (or-fine (or-fine
+      (or-fine (or-fine (or-fine (or-fine (or-fine
       (differs-fine (length (x .sheet .attachments)) (x .sheet .tranches + 1))
       (or-fine (outside-fine 1 16 (length (x .sheet .starts))) (differs-fine (length (x .sheet .hazards)) (length (x .sheet .starts) * x .sheet .names))))
       (differs-fine (length (x .sheet .discounts)) (x .sheet .steps)))
       (differs-fine (length (x .sheet .accruals)) (x .sheet .steps)))
+      (differs-fine (length (x .sheet .elapsed)) (x .sheet .steps)))
       (differs-fine (length (x .coupons)) (x .sheet .tranches + 1))) (
-        λ m. (m .0 .0 .0 .0, record { starts = m .0 .0 .0 .1 .0; hazards = m .0 .0 .0 .1 .1; discounts = m .0 .0 .1; accruals = m .0 .1 }, m .1),
-        λ p. ((((p .0, (p .1 .starts, p .1 .hazards)), p .1 .discounts), p .1 .accruals), p .2),
+        λ m. (
+          m .0 .0 .0 .0 .0,
+          record {
+            starts = m .0 .0 .0 .0 .1 .0;
+            hazards = m .0 .0 .0 .0 .1 .1;
+            discounts = m .0 .0 .0 .1;
+            accruals = m .0 .0 .1;
+            elapsed = m .0 .1;
+          },
+          m .1,
+        ),
+        λ p. (((((p .0, (p .1 .starts, p .1 .hazards)), p .1 .discounts), p .1 .accruals), p .1 .elapsed), p .2),
       )
 
   -- The same with the lists lent beside the sheet's own, where K says that they fit.

@@ -1,8 +1,8 @@
--- Document 01's number of each refusal ('Refusals in order'), and T-06's.
+-- Document 01's number of each refusal ('Refusals in order'), and those of T-01 and T-06.
 use Prim.Native.Nat.{ℕ}
 use Rattle.refusals.specs.declared.Refusal.{Refusal}
 use Rattle.refusals.specs.declared.Refusal.the-variants.{Pool, Length, Recovery, Attachments, Hazard, Discount, Accrual, Coupon, Withdrawn}
-use Rattle.refusals.specs.declared.Refusal.the-variants.{Unissued, NoWalk, OverCeiling, OutOfSteps, OffTree, FlatHedge, OffScale, Periods}
+use Rattle.refusals.specs.declared.Refusal.the-variants.{Unissued, NoWalk, OverCeiling, OutOfSteps, OffTree, FlatHedge, OffScale, Elapsed, Periods}
 
 abbrev pub refusalNumber : Refusal → ℕ
 refusalNumber Pool = 1
@@ -21,4 +21,5 @@ refusalNumber OutOfSteps = 13
 refusalNumber OffTree = 14
 refusalNumber FlatHedge = 15
 refusalNumber OffScale = 16
+refusalNumber Elapsed = 21
 refusalNumber Periods = 25

@@ -2,7 +2,7 @@
 ghost use mathlib.Core.Path.{_≡_};
 ghost use Rattle.refusals.specs.Refusals.{refusalNumber};
 
-// Every refusal of a call, with the number and word of document 01, and of T-06 for the last.
+// Every refusal of a call, with the number and word of document 01, and of T-01 and T-06 for the last two.
 pub enum Refusal {
     // 1, pool
     Pool,
@@ -36,6 +36,8 @@ pub enum Refusal {
     FlatHedge,
     // 16, off scale
     OffScale,
+    // 21, elapsed
+    Elapsed,
     // 25, periods
     Periods,
 }
@@ -67,6 +69,7 @@ pub fn refusal_number(refusal: Refusal) -> u8
         Refusal::OffTree => 14,
         Refusal::FlatHedge => 15,
         Refusal::OffScale => 16,
+        Refusal::Elapsed => 21,
         Refusal::Periods => 25,
     }
 }
