@@ -14,8 +14,9 @@ use Rattle.sheet.specs.Terms.{Terms, termsOf, sumOf}
 use Rattle.rows.specs.Tables.{any}
 use Rattle.sheet.specs.Brought.{Brought}
 use Rattle.lists.specs.Outside.{outside}
-use Rattle.refusals.specs.Tests.{differs, periodsBad, listsBad, attachmentsBad, startsBad, hazardsBad, discountsBad, accrualsBad, couponsBad}
+use Rattle.refusals.specs.Tests.{differs, periodsBad, listsBad, attachmentsBad, startsBad, hazardsBad, discountsBad, accrualsBad, elapsedBad, couponsBad}
 use Rattle.lists.proofs.Loops.{falls}
+use Rattle.faults.proofs.Elapsed.{over-next}
 
 same-reach : (f : ℕ → Bool) {n m : ℕ} → n ≡ m → any n f ≡ any m f
 same-reach f e = ap (λ n. any n f) e
@@ -65,41 +66,53 @@ module _ (x : Terms) where
   unfolding accrualsBad
   accruals-told e p q z = rw (p ∙ same-reach _ e, q, z ∙ ap (λ i. eqb (getD (x .accruals) i 0) 0) (sub-one (x .steps)))
 
+  pub elapsed-told : {high : Bool} → length (x .elapsed) ≡ x .steps →
+      high ≡ any (length (x .elapsed)) (over-next (x .accruals) (x .elapsed)) → high ≡ elapsedBad x
+  unfolding elapsedBad
+  elapsed-told e p = p ∙ same-reach _ e
+
 module _ (x : Brought) where
   pub coupons-told : {l : List ℕ} {high : Bool} → l ≡ x .coupons → length (x .coupons) ≡ x .sheet .tranches + 1 →
       high ≡ any (length l) (λ i. ltb 10_000_000 (getD l i 0)) → high ≡ couponsBad x
   unfolding couponsBad
   coupons-told s e p = p ∙ (λ t. any (length (s t)) (λ i. ltb 10_000_000 (getD (s t) i 0))) ∙ same-reach _ e
 
-  pub lists-told : {a b c d e : Bool} → a ≡ differs (length (x .sheet .attachments)) (x .sheet .tranches + 1) →
+  pub lists-told : {a b c d e f : Bool} → a ≡ differs (length (x .sheet .attachments)) (x .sheet .tranches + 1) →
       b ≡ periodsBad (x .sheet) → c ≡ differs (length (x .sheet .discounts)) (x .sheet .steps) →
-      d ≡ differs (length (x .sheet .accruals)) (x .sheet .steps) → e ≡ differs (length (x .coupons)) (x .sheet .tranches + 1) →
-      (a || b || c || d || e) ≡ listsBad x
+      d ≡ differs (length (x .sheet .accruals)) (x .sheet .steps) → e ≡ differs (length (x .sheet .elapsed)) (x .sheet .steps) →
+      f ≡ differs (length (x .coupons)) (x .sheet .tranches + 1) → (a || b || c || d || e || f) ≡ listsBad x
   unfolding listsBad
-  lists-told a b c d e = rw (a, b, c, d, e)
+  lists-told a b c d e f = rw (a, b, c, d, e, f)
 
--- What rests on the pool and one list alone.
-module _ (pool : Pool) (attachments starts hazards discounts accruals l : List ℕ) where
+-- What rests on the pool and one list alone, or two.
+module _ (pool : Pool) (attachments starts hazards discounts accruals elapsed l : List ℕ) where
   abbrev whole : Terms
-  whole = termsOf pool attachments starts hazards discounts accruals
+  whole = termsOf pool attachments starts hazards discounts accruals elapsed
 
-  attachments-whole : attachmentsBad (termsOf pool attachments [] [] [] []) ≡ attachmentsBad whole
+  attachments-whole : attachmentsBad (termsOf pool attachments [] [] [] [] []) ≡ attachmentsBad whole
   unfolding attachmentsBad
   attachments-whole = refl
 
-  pub attachments-part : l ≡ attachments → attachmentsBad (termsOf pool l [] [] [] []) ≡ attachmentsBad whole
-  attachments-part e = ap (λ (y : List ℕ). attachmentsBad (termsOf pool y [] [] [] [])) e ∙ attachments-whole
+  pub attachments-part : l ≡ attachments → attachmentsBad (termsOf pool l [] [] [] [] []) ≡ attachmentsBad whole
+  attachments-part e = ap (λ (y : List ℕ). attachmentsBad (termsOf pool y [] [] [] [] [])) e ∙ attachments-whole
 
-  starts-whole : startsBad (termsOf pool [] starts [] [] []) ≡ startsBad whole
+  starts-whole : startsBad (termsOf pool [] starts [] [] [] []) ≡ startsBad whole
   unfolding startsBad
   starts-whole = refl
 
-  pub starts-part : l ≡ starts → startsBad (termsOf pool [] l [] [] []) ≡ startsBad whole
-  starts-part e = ap (λ (y : List ℕ). startsBad (termsOf pool [] y [] [] [])) e ∙ starts-whole
+  pub starts-part : l ≡ starts → startsBad (termsOf pool [] l [] [] [] []) ≡ startsBad whole
+  starts-part e = ap (λ (y : List ℕ). startsBad (termsOf pool [] y [] [] [] [])) e ∙ starts-whole
 
-  accruals-whole : accrualsBad (termsOf pool [] [] [] [] accruals) ≡ accrualsBad whole
+  accruals-whole : accrualsBad (termsOf pool [] [] [] [] accruals []) ≡ accrualsBad whole
   unfolding accrualsBad
   accruals-whole = refl
 
-  pub accruals-part : l ≡ accruals → accrualsBad (termsOf pool [] [] [] [] l) ≡ accrualsBad whole
-  accruals-part e = ap (λ (y : List ℕ). accrualsBad (termsOf pool [] [] [] [] y)) e ∙ accruals-whole
+  pub accruals-part : l ≡ accruals → accrualsBad (termsOf pool [] [] [] [] l []) ≡ accrualsBad whole
+  accruals-part e = ap (λ (y : List ℕ). accrualsBad (termsOf pool [] [] [] [] y [])) e ∙ accruals-whole
+
+  elapsed-whole : elapsedBad (termsOf pool [] [] [] [] accruals elapsed) ≡ elapsedBad whole
+  unfolding elapsedBad
+  elapsed-whole = refl
+
+  pub elapsed-part : (e : List ℕ) → l ≡ accruals → e ≡ elapsed → elapsedBad (termsOf pool [] [] [] [] l e) ≡ elapsedBad whole
+  elapsed-part e p q = (λ t. elapsedBad (termsOf pool [] [] [] [] (p t) (q t))) ∙ elapsed-whole
