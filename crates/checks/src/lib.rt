@@ -1,4 +1,4 @@
-// Sheets as they are brought, and the refusals 1 to 8 and 25 that look at nothing else.
+// Sheets as they are brought, and the refusals 1 to 8, 21 and 25 that look at nothing else.
 ghost use mathlib.Core.Path.{_≡_};
 ghost use mathlib.Core.List.{[]};
 ghost use Rattle.sheet.specs.Spans.{broughtIn, termsIn};
@@ -29,7 +29,7 @@ fn tranches_refusal(sheet: Sheet, numbers: &[u64]) -> Found
     Found::Fine
 }
 
-// Checks 25 and 5 to 7: what the tree rests on.
+// Checks 25, 5 to 7 and 21: what the tree rests on.
 fn tree_refusal(sheet: Sheet, numbers: &[u64]) -> Found
     requires { ⌜ PoolInside (termsIn sheet (now numbers)) × ListsFit (broughtIn sheet (now numbers)) ⌝ }
     ensures { λ r. ⌜ r ≡ first (treeTests (termsIn sheet (now (numbers .entry))) []) ⌝ }
@@ -51,10 +51,14 @@ fn tree_refusal(sheet: Sheet, numbers: &[u64]) -> Found
     if faults::accruals_bad(pool, accruals) {
         return Found::Refused(Refusal::Accrual);
     }
+    let elapsed = part(sheet.elapsed, numbers);
+    if faults::elapsed_bad(pool, accruals, elapsed) {
+        return Found::Refused(Refusal::Elapsed);
+    }
     Found::Fine
 }
 
-// Checks 3 to 8 and 25, on a pool within its limits and lists of the right lengths.
+// Checks 3 to 8, 21 and 25, on a pool within its limits and lists of the right lengths.
 fn figures_refusal(sheet: Sheet, numbers: &[u64]) -> Found
     requires { ⌜ PoolInside (termsIn sheet (now numbers)) × ListsFit (broughtIn sheet (now numbers)) ⌝ }
     ensures { λ r. ⌜ r ≡ first (figureTests (broughtIn sheet (now (numbers .entry))) []) ⌝ }
@@ -74,7 +78,7 @@ fn figures_refusal(sheet: Sheet, numbers: &[u64]) -> Found
     Found::Fine
 }
 
-// Checks 1 to 8 in order, 25 before 5. `lent` tells whether a list lent beside the sheet's own has another length;
+// Checks 1 to 8 in order, 25 before 5 and 21 after 7. `lent` tells whether a list lent beside the sheet's own has another length;
 // it counts only where the pool is within its limits.
 pub fn sheet_refusal(sheet: Sheet, numbers: &[u64], lent: bool) -> Found
     ensures { λ r. ⌜ r ≡ first (sheetTests (broughtIn sheet (now (numbers .entry))) lent []) ⌝ }

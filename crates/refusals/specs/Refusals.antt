@@ -2,7 +2,8 @@
 use Prim.Native.Nat.{ℕ}
 use Rattle.refusals.specs.declared.Refusal.{Refusal}
 use Rattle.refusals.specs.declared.Refusal.the-variants.{Pool, Length, Recovery, Attachments, Hazard, Discount, Accrual, Coupon, Withdrawn}
-use Rattle.refusals.specs.declared.Refusal.the-variants.{Unissued, NoWalk, OverCeiling, OutOfSteps, OffTree, FlatHedge, OffScale, Elapsed, Periods}
+use Rattle.refusals.specs.declared.Refusal.the-variants.{Unissued, NoWalk, OverCeiling, OutOfSteps, OffTree, FlatHedge, OffScale}
+use Rattle.refusals.specs.declared.Refusal.the-variants.{Elapsed, Periods}
 
 abbrev pub refusalNumber : Refusal → ℕ
 refusalNumber Pool = 1

@@ -11,7 +11,8 @@ use Rattle.rows.specs.Tables.{any}
 use Rattle.lists.specs.Outside.{outside}
 use Rattle.sheet.specs.Brought.{Brought}
 use Rattle.refusals.specs.declared.Refusal.{Refusal}
-use Rattle.refusals.specs.declared.Refusal.the-variants.{Pool, Length, Recovery, Attachments, Hazard, Discount, Accrual, Coupon, Elapsed, Periods}
+use Rattle.refusals.specs.declared.Refusal.the-variants.{Pool, Length, Recovery, Attachments, Hazard, Discount, Accrual, Coupon}
+use Rattle.refusals.specs.declared.Refusal.the-variants.{Elapsed, Periods}
 use Rattle.refusals.specs.declared.Found.{Found}
 use Rattle.refusals.specs.declared.Found.the-variants.{Fine, Refused}
 

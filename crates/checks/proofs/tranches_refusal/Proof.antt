@@ -26,7 +26,7 @@ attachments-bad-requires c κs = ap length (c .part .ensures) ∙ start (c .befo
 
 -- what the check of the attachment points found
 told : (c : tie.After-attachments-bad) → let s = start (c .before .before) in c .attachments-bad .result ≡ attachmentsBad (termsIn (s .args .sheet) (s .args .numbers .now))
-told c = c .attachments-bad .ensures ∙ attachments-part (start (c .before .before) .args .sheet .pool) _ _ _ _ _ _ (c .before .part .ensures)
+told c = c .attachments-bad .ensures ∙ attachments-part (start (c .before .before) .args .sheet .pool) _ _ _ _ _ _ _ (c .before .part .ensures)
 
 returns-2 : tie.Need-returns-2
 unfolding recoveryBad B

@@ -1,14 +1,16 @@
--- The starts, then the hazards, then the discounts, then the accruals.
+-- The starts, then the hazards, then the discounts, then the accruals, then the elapsed fractions.
 use borrow.Author.Needs.{needs}
 use mathlib.Core.Path.{_≡_, sym, ap, _∙_}
 use mathlib.Core.Bool.{false}
+use mathlib.Core.List.{List, _∷_}
 use lib.ListN.{length}
 use Rattle.cash.specs.Units.{B}
 use Rattle.sheet.specs.Terms.{Terms}
 use Rattle.sheet.specs.Spans.{termsIn}
-use Rattle.refusals.specs.Tests.{startsBad, hazardsBad, discountsBad, accrualsBad}
+use Rattle.refusals.specs.Tests.{startsBad, hazardsBad, discountsBad, accrualsBad, elapsedBad, Test, first}
+use Rattle.refusals.specs.declared.Refusal.the-variants.{Hazard, Discount, Accrual, Periods}
 use Rattle.refusals.proofs.FirstTest.{first-none, first-met, first-passed}
-use Rattle.faults.proofs.Lists.{starts-part, hazards-told, discounts-told, accruals-part}
+use Rattle.faults.proofs.Lists.{starts-part, hazards-told, discounts-told, accruals-part, elapsed-part}
 use Rattle.checks.proofs.tree_refusal.Statement.{statement}
 use Rattle.checks.proofs.tree_refusal.Tie as tie
 
@@ -20,7 +22,7 @@ X s = termsIn (s .args .sheet) (s .args .numbers .now)
 
 -- what each check found
 starts : (b : tie.After-starts-bad) → b .starts-bad .result ≡ startsBad (X (start b))
-starts b = b .starts-bad .ensures ∙ starts-part (start b .args .sheet .pool) _ _ _ _ _ _ (b .before .part .ensures)
+starts b = b .starts-bad .ensures ∙ starts-part (start b .args .sheet .pool) _ _ _ _ _ _ _ (b .before .part .ensures)
 
 abbrev begun : tie.After-any-above → tie.After-starts-bad
 begun a = a .before .before .before
@@ -42,7 +44,15 @@ abbrev outside : tie.After-accruals-bad → tie.After-any-outside
 outside e = e .before .before .before
 
 accruals : (e : tie.After-accruals-bad) → e .accruals-bad .result ≡ accrualsBad (X (start (begun (above (outside e)))))
-accruals e = e .accruals-bad .ensures ∙ accruals-part (start (begun (above (outside e))) .args .sheet .pool) _ _ _ _ _ _ (e .before .part4 .ensures)
+accruals e = e .accruals-bad .ensures ∙ accruals-part (start (begun (above (outside e))) .args .sheet .pool) _ _ _ _ _ _ _ (e .before .part4 .ensures)
+
+abbrev dated : tie.After-elapsed-bad → tie.After-accruals-bad
+dated g = g .before .before .before
+
+elapsed : (g : tie.After-elapsed-bad) → g .elapsed-bad .result ≡ elapsedBad (X (start (begun (above (outside (dated g))))))
+elapsed g =
+    g .elapsed-bad .ensures
+    ∙ elapsed-part (start (begun (above (outside (dated g)))) .args .sheet .pool) _ _ _ _ _ _ _ _ (dated g .before .part4 .ensures) (g .before .part5 .ensures)
 
 part-requires : tie.Need-part-requires
 part-requires c κs = search needs
@@ -100,12 +110,29 @@ returns-4 c =
     sym (first-passed _ _ _ (fine-25 (i .before .before .before)) ∙ first-passed _ _ _ (fine-5 i) ∙ first-passed _ _ _ (fine-6 j)
     ∙ first-met _ _ _ (sym (accruals (c .before)) ∙ c .if4 .taken))
 
+part-requires-5 : tie.Need-part-requires-5
+part-requires-5 c κs = search needs
+
+elapsed-bad-requires : tie.Need-elapsed-bad-requires
+elapsed-bad-requires c κs =
+    let a = c .before .before in
+    let s = start (begun (above (outside a))) in
+    (ap length (a .before .part4 .ensures) ∙ s .pre .1 .1 .accruals, ap length (c .part5 .ensures) ∙ s .pre .1 .1 .elapsed)
+
+-- and the accruals: what is found is what the test of the elapsed fractions finds
+fine-7 : (i : tie.Else4) → (l : List Test) → let x = X (start (begun (above (outside (i .before))))) in
+    first ((startsBad x, Periods) ∷ (hazardsBad x, Hazard) ∷ (discountsBad x, Discount) ∷ (accrualsBad x, Accrual) ∷ l) ≡ first l
+fine-7 i l =
+    let d = i .before .before .before in
+    let a = d .before .before .before in
+    first-passed _ _ _ (fine-25 (a .before .before .before)) ∙ first-passed _ _ _ (fine-5 a) ∙ first-passed _ _ _ (fine-6 d)
+    ∙ first-passed _ _ _ (sym (accruals (i .before)) ∙ i .if4 .left)
+
 returns-5 : tie.Need-returns-5
-returns-5 c =
-    let j = c .before .before .before in
-    let i = j .before .before .before in
-    sym (first-passed _ _ _ (fine-25 (i .before .before .before)) ∙ first-passed _ _ _ (fine-5 i) ∙ first-passed _ _ _ (fine-6 j)
-    ∙ first-passed _ _ _ (sym (accruals (c .before)) ∙ c .if4 .left) ∙ first-none)
+returns-5 c = sym (fine-7 (c .before .before .before) _ ∙ first-met _ _ _ (sym (elapsed (c .before)) ∙ c .if5 .taken))
+
+returns-6 : tie.Need-returns-6
+returns-6 c = sym (fine-7 (c .before .before .before) _ ∙ first-passed _ _ _ (sym (elapsed (c .before)) ∙ c .if5 .left) ∙ first-none)
 
 pub tree-refusal-spec : {M : Type 1} → statement M
 tree-refusal-spec =
@@ -123,4 +150,7 @@ tree-refusal-spec =
     part-requires-4
     accruals-bad-requires
     returns-4
-    returns-5)
+    part-requires-5
+    elapsed-bad-requires
+    returns-5
+    returns-6)
