@@ -72,10 +72,10 @@ unfolding offWalk
 walk-steps x isOpen number position e h = simp (e, eq-eqb number (x .number) h)
 
 -- The check rests on the pool and the walk alone.
-pub walk-told : (pool : Pool) (attachments starts hazards discounts accruals coupons : List ℕ) (isOpen : Bool) (number position : ℕ) {r : Bool} →
-    r ≡ offWalk (brought pool [] [] [] [] [] []) isOpen number position → r ≡ offWalk (brought pool attachments starts hazards discounts accruals coupons) isOpen number position
+pub walk-told : (pool : Pool) (attachments starts hazards discounts accruals elapsed coupons : List ℕ) (isOpen : Bool) (number position : ℕ) {r : Bool} →
+    r ≡ offWalk (brought pool [] [] [] [] [] [] []) isOpen number position → r ≡ offWalk (brought pool attachments starts hazards discounts accruals elapsed coupons) isOpen number position
 unfolding offWalk
-walk-told pool attachments starts hazards discounts accruals coupons isOpen number position e = e
+walk-told pool attachments starts hazards discounts accruals elapsed coupons isOpen number position e = e
 
 -- ---- checks 11 and 12 behind the first ten
 

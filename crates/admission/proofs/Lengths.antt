@@ -46,13 +46,13 @@ unfolding rowBad
 row-row x g q e = simp (eq-eqb (length g) 256 e)
 
 -- The lengths of rows rest on the pool alone.
-module _ (pool : Pool) (attachments starts hazards discounts accruals coupons g : List ℕ) {r : Bool} where
-  pub rows-told : (l : Rows) → (poolBad (termsOf pool [] [] [] [] []) ≡ false → r ≡ rowsBad (brought pool [] [] [] [] [] []) g l) →
-      poolBad (termsOf pool attachments starts hazards discounts accruals) ≡ false → r ≡ rowsBad (brought pool attachments starts hazards discounts accruals coupons) g l
+module _ (pool : Pool) (attachments starts hazards discounts accruals elapsed coupons g : List ℕ) {r : Bool} where
+  pub rows-told : (l : Rows) → (poolBad (termsOf pool [] [] [] [] [] []) ≡ false → r ≡ rowsBad (brought pool [] [] [] [] [] [] []) g l) →
+      poolBad (termsOf pool attachments starts hazards discounts accruals elapsed) ≡ false → r ≡ rowsBad (brought pool attachments starts hazards discounts accruals elapsed coupons) g l
   unfolding poolBad rowsBad
   rows-told l f e = f e
 
-  pub row-told : (q : List ℕ) → (poolBad (termsOf pool [] [] [] [] []) ≡ false → r ≡ rowBad (brought pool [] [] [] [] [] []) g q) →
-      poolBad (termsOf pool attachments starts hazards discounts accruals) ≡ false → r ≡ rowBad (brought pool attachments starts hazards discounts accruals coupons) g q
+  pub row-told : (q : List ℕ) → (poolBad (termsOf pool [] [] [] [] [] []) ≡ false → r ≡ rowBad (brought pool [] [] [] [] [] [] []) g q) →
+      poolBad (termsOf pool attachments starts hazards discounts accruals elapsed) ≡ false → r ≡ rowBad (brought pool attachments starts hazards discounts accruals elapsed coupons) g q
   unfolding poolBad rowBad
   row-told q f e = f e

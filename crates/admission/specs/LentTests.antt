@@ -36,7 +36,7 @@ isUnissued Status.Withdrawn = false
 unfoldable pub offWalk : Brought → Bool → ℕ → ℕ → Bool
 offWalk x isOpen number position = not isOpen || differs number (x .number) || ltb (x .sheet .steps) position
 
--- Checks 1 to 10 with 25, and then more. `lent` tells whether a list lent beside the sheet's own has another length.
+-- Checks 1 to 10 with 21 and 25, and then more. `lent` tells whether a list lent beside the sheet's own has another length.
 unfoldable pub tenTests : Brought → List ℕ → Bool → List Test → List Test
 tenTests x register lent more =
     sheetTests x lent

@@ -27,7 +27,7 @@ abbrev start : tie.After-to-ten → tie.Start
 start p = p .before .before .before .before .before .before .before
 
 told : (p : tie.After-to-ten) → poolBad (sheet (start p) .sheet) ≡ false → p .before .rows-differ .result ≡ rowsBad (sheet (start p)) (start p .args .register .now) (rows (start p))
-told p = rows-told _ _ _ _ _ _ _ _ _ (p .before .rows-differ .ensures)
+told p = rows-told _ _ _ _ _ _ _ _ _ _ (p .before .rows-differ .ensures)
 
 rows-differ-requires : tie.Need-rows-differ-requires
 rows-differ-requires c κs = search needs
@@ -55,7 +55,7 @@ off-walk-requires : tie.Need-off-walk-requires
 off-walk-requires c κs = search needs
 
 off : (c : tie.After-off-walk) → let s = start (c .before .before .before) in c .off-walk .result ≡ offWalk (sheet s) (s .args .is-open) (s .args .number) (s .args .position)
-off c = walk-told _ _ _ _ _ _ _ _ _ _ (c .off-walk .ensures)
+off c = walk-told _ _ _ _ _ _ _ _ _ _ _ (c .off-walk .ensures)
 
 returns-2 : tie.Need-returns-2
 returns-2 c =

@@ -30,7 +30,7 @@ abbrev start : tie.After-to-ten → tie.Start
 start p = p .before .before .before .before .before .before
 
 told : (p : tie.After-to-ten) → poolBad (sheet (start p) .sheet) ≡ false → p .before .row-differs .result ≡ rowBad (sheet (start p)) (start p .args .register .now) (start p .args .row .now)
-told p = row-told _ _ _ _ _ _ _ _ _ (p .before .row-differs .ensures)
+told p = row-told _ _ _ _ _ _ _ _ _ _ (p .before .row-differs .ensures)
 
 -- an outcome that is ours keeps the rule of ours
 gives : (x : Brought) (g q : List ℕ) (i : ℕ) {o : ForwardOutcome} → o ≡ forwardCall x g q i → (o ≡ forwardCall x g q i) × ForwardRule x g q i (forwardResult o)

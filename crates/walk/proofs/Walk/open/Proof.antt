@@ -38,7 +38,7 @@ same-length-2 : tie.Need-same-length-2
 same-length-2 c = search needs
 
 told : (p : tie.After-to-ten) → poolBad (sheet (start p) .sheet) ≡ false → p .before .rows-differ .result ≡ rowsBad (sheet (start p)) (start p .args .register .now) (rows (start p))
-told p = rows-told _ _ _ _ _ _ _ _ _ (p .before .rows-differ .ensures)
+told p = rows-told _ _ _ _ _ _ _ _ _ _ (p .before .rows-differ .ensures)
 
 returns : tie.Need-returns
 returns c =
