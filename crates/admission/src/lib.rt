@@ -50,7 +50,7 @@ pub fn row_differs(pool: Pool, register: &[u8], row: &[u64]) -> bool
     row.len() != pool.names + 1
 }
 
-// 1 to 10 with 25. `lent` tells whether a list lent beside the sheet's own has another length.
+// 1 to 10 with 21 and 25. `lent` tells whether a list lent beside the sheet's own has another length.
 pub fn to_ten(sheet: Sheet, numbers: &[u64], register: &[u8], lent: bool) -> Found
     ensures { λ r. ⌜ r ≡ first (tenTests (broughtIn sheet (now (numbers .entry))) (now (register .entry)) lent []) ⌝ }
 {

@@ -120,13 +120,17 @@ unfolding anyOver
 none-over x most row e j k p q =
     ltb-false _ _ (any-none (suc (x .names)) _ (any-none (suc (x .tranches)) _ e j (omega arith)) k (omega arith))
 
-B-most : 7425 ≤ B
-unfolding B
-B-most = lit≤ tt
+-- the units for names and steps are few
+pub premium-most-low : (x : Terms) → TermsWithin x → (i k : ℕ) → premiumMost x i k ≤ sumOf (drop i (x .accruals)) + B
+unfolding premiumMost
+premium-most-low x l i k = omega (arith, l .tranches .pool .names, l .tranches .pool .steps, few)
+  where
+    few : 7425 ≤ B
+    few = unfold B in lit≤ tt
 
 pub unsoiled-rollable : (x : Terms) (d p : List ℕ) (position count : ℕ) → TermsWithin x → length d ≡ rowLength x → length p ≡ rowLength x
     → position ≤ x .steps → count ≤ position → soiled x position d p ≡ false → Rollable x d p position count
-unfolding soiled defaultMost premiumMost
+unfolding soiled defaultMost
 unsoiled-rollable x d p position count l dl pl a b e =
     record {
       limits = l;
@@ -137,5 +141,5 @@ unsoiled-rollable x d p position count l dl pl a b e =
       defaults-most = λ j k u v.
           omega (arith, none-over x (defaultMost x) d (or-left (anyOver x (defaultMost x) d) (anyOver x (λ j k. premiumMost x position k) p) e) j k u v, loss-most x j k v, width-most x (l .tranches) j);
       premiums-most = λ j k u v.
-          omega (arith, l .tranches .pool .names, l .tranches .pool .steps, B-most, none-over x (λ j k. premiumMost x position k) p (or-right (anyOver x (defaultMost x) d) (anyOver x (λ j k. premiumMost x position k) p) e) j k u v);
+          omega (arith, premium-most-low x l position k, none-over x (λ j k. premiumMost x position k) p (or-right (anyOver x (defaultMost x) d) (anyOver x (λ j k. premiumMost x position k) p) e) j k u v);
     }

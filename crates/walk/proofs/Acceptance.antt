@@ -8,7 +8,7 @@ use lib.ListN.{length}
 use lib.IntN.{natAbs}
 use Rattle.register.specs.Rules.{Unissued, Live}
 use Rattle.sheet.specs.Brought.{Brought}
-use Rattle.sheet.specs.Limits.{PoolInside, RecoveryInside, AttachmentsRise, StartsRise, HazardsInside, DiscountsInside, AccrualsInside, CouponsInside}
+use Rattle.sheet.specs.Limits.{PoolInside, RecoveryInside, AttachmentsRise, StartsRise, HazardsInside, DiscountsInside, AccrualsInside, ElapsedInside, CouponsInside}
 use Rattle.walk.specs.declared.Walk.{Walk}
 use Rattle.rows.specs.Rows.{Rows}
 use Rattle.walk.specs.Answers.{Said, accepted}
@@ -70,5 +70,6 @@ pub ten-early : (x : Brought) (g : List ℕ) → ¬ (Unissued g (x .number) ⊎ 
 ten-early x g gone K m a n j =
     broken-refused
     ((PoolInside (x .sheet), 1) ∷ (K, 2) ∷ (RecoveryInside (x .sheet), 3) ∷ (AttachmentsRise (x .sheet), 4) ∷ (StartsRise (x .sheet), 25)
-    ∷ (HazardsInside (x .sheet), 5) ∷ (DiscountsInside (x .sheet), 6) ∷ (AccrualsInside (x .sheet), 7) ∷ (CouponsInside x, 8) ∷ [])
+    ∷ (HazardsInside (x .sheet), 5) ∷ (DiscountsInside (x .sheet), 6) ∷ (AccrualsInside (x .sheet), 7) ∷ (ElapsedInside (x .sheet), 21)
+    ∷ (CouponsInside x, 8) ∷ [])
     _ ((¬ (Unissued g (x .number)), 10) ∷ m) a n refl gone j

@@ -93,7 +93,8 @@ module _ (e : Engine) (rules : Rules e) (u : Run) (z h : ℕ) (w : Walked e u z 
       let x = u .catalogue .sheet z .sheet in
       let adds : IndexPremiums x = additive x (limits-terms (u .catalogue .sheet z) (placed e rules u z h w .stood .limits)) .index p in
       record {
-        cash = adds .cash;
+        dates = adds .dates;
+        elapsed = adds .elapsed;
         exact = adds .exact h (x .steps - h);
         held = λ k m.
             near-as (adds .computed h (x .steps - h) k m) (le-refl _)

@@ -8,7 +8,7 @@ use lib.Dec.{eqb}
 use borrow.Author.Tests.{eq-eqb, not-true}
 use Rattle.register.proofs.Masks.{both}
 use Rattle.refusals.specs.declared.Refusal.{Refusal}
-use Rattle.refusals.specs.declared.Refusal.the-variants.{Pool, Length, Recovery, Attachments, Hazard, Discount, Accrual, Coupon, Withdrawn, Unissued, NoWalk, OverCeiling, OutOfSteps, OffTree, FlatHedge, OffScale, Periods}
+use Rattle.refusals.specs.declared.Refusal.the-variants.{Pool, Length, Recovery, Attachments, Hazard, Discount, Accrual, Coupon, Withdrawn, Unissued, NoWalk, OverCeiling, OutOfSteps, OffTree, FlatHedge, OffScale, Elapsed, Periods}
 use Rattle.refusals.specs.declared.Found.the-variants.{Fine, Refused}
 use Rattle.refusals.specs.Refusals.{refusalNumber}
 use Rattle.refusals.specs.Tests.{Test, first}
@@ -40,6 +40,7 @@ refusal-some OutOfSteps = refl
 refusal-some OffTree = refl
 refusal-some FlatHedge = refl
 refusal-some OffScale = refl
+refusal-some Elapsed = refl
 refusal-some Periods = refl
 
 pub number-accepted : (a : Said) → a .number ≡ 0 → accepted a ≡ true

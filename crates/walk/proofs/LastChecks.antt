@@ -16,7 +16,7 @@ use Rattle.rows.specs.Rows.{rowLength, rowOf, rolledBack, distributionRow, rows
 use Rattle.rows.specs.Rollable.{Rollable}
 use Rattle.rows.proofs.Sums.{sum-drop-most}
 use Rattle.tranches.proofs.Losses.{width-most}
-use Rattle.ceilings.proofs.Found.{unsoiled-rollable}
+use Rattle.ceilings.proofs.Found.{unsoiled-rollable, premium-most-low}
 use Rattle.sheet.specs.Brought.{Brought}
 use Rattle.sheet.specs.Limits.{TranchesWithin}
 use Rattle.sheet.proofs.Limits.{limits-terms}
@@ -83,7 +83,7 @@ module _ (x : Brought) (g : List ℕ) (w : Walk) (l : Lent.Rows) (o : OnWay x g 
       (o .lent .rows .premiums) (o .walk .position) h (soiled-fine (x .sheet) (w .position) l .1 (o .clean))
 
   pub readable : (j k : ℕ) → j ≤ x .sheet .tranches → k ≤ x .sheet .names → Readable x l j k
-  unfolding defaultMost premiumMost
+  unfolding defaultMost
   readable j k p q =
       record {
         names = o .limits .pool .names .1;
@@ -93,7 +93,7 @@ module _ (x : Brought) (g : List ℕ) (w : Walk) (l : Lent.Rows) (o : OnWay x g 
         default-size = o .lent .rows .defaults;
         premium-size = o .lent .rows .premiums;
         default = omega (arith, o .clean .default j k p q, width-most (x .sheet) (limits-terms x (o .limits) .tranches) j);
-        premium = omega (arith, o .clean .premium j k p q, sum-drop-most (w .position) (x .sheet .accruals), o .limits .accruals .total);
+        premium = omega (arith, o .clean .premium j k p q, premium-most-low (x .sheet) (limits-terms x (o .limits)) (w .position) k, sum-drop-most (w .position) (x .sheet .accruals), o .limits .accruals .total);
         coupons = o .lent .lists .2;
         coupon = o .limits .coupons j (omega arith);
       }

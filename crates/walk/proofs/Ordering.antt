@@ -20,7 +20,7 @@ use Rattle.sheet.specs.Brought.{Brought}
 use Rattle.sheet.specs.Limits.{ListsFit, Limits}
 use Rattle.refusals.specs.Tests.{Test, listsBad, sheetTests}
 use Rattle.refusals.proofs.Judged.{or-fine, most-fine, rise-fine, any-fine}
-use Rattle.refusals.proofs.Meanings.{pool-fine, lengths-fine, recovery-fine, attachments-fine, starts-fine, hazards-fine, discounts-fine, accruals-fine, coupons-fine}
+use Rattle.refusals.proofs.Meanings.{pool-fine, lengths-fine, recovery-fine, attachments-fine, starts-fine, hazards-fine, discounts-fine, accruals-fine, elapsed-fine, coupons-fine}
 use Rattle.walk.specs.declared.Walk.{Walk}
 use Rattle.figures.specs.Nodes.{jump}
 use Rattle.walk.specs.RefusalOrders.{LentFit, ForwardFit, OnWalk, Clean, RefusalOrder, toTen, toTwelve, openOrder, backOrder, valueOrder, ratioOrder, forwardOrder}
@@ -131,10 +131,14 @@ module _ (x : Brought) (g : List ℕ) where
                   accruals-fine (x .sheet),
                   refl,
                   λ k7. (
-                    coupons-fine x,
+                    elapsed-fine (x .sheet),
                     refl,
-                    λ k8.
-                        (withdrawn-fine g (x .number) (long k2), refl, λ k9. (unissued-fine g (x .number) (long k2), refl, λ k10. rest)),
+                    λ k21. (
+                      coupons-fine x,
+                      refl,
+                      λ k8.
+                          (withdrawn-fine g (x .number) (long k2), refl, λ k9. (unissued-fine g (x .number) (long k2), refl, λ k10. rest)),
+                    ),
                   ),
                 ),
               ),
@@ -209,8 +213,8 @@ module _ (x : Brought) (g : List ℕ) where
   ten-holds K m lists = (there, back)
     where
       there : Holds (toTen x g K m) → Limits x × K × Live g (x .number) × Holds m
-      there (a, (b, (c, (d, (s, (e, (f, (h, (i, (u, (n, rest))))))))))) = (
-        record { pool = a; lists = lists b; recovery = c; attachments = d; starts = s; hazards = e; discounts = f; accruals = h; coupons = i },
+      there (a, (b, (c, (d, (s, (e, (f, (h, (t, (i, (u, (n, rest)))))))))))) = (
+        record { pool = a; lists = lists b; recovery = c; attachments = d; starts = s; hazards = e; discounts = f; accruals = h; elapsed = t; coupons = i },
         b,
         only-live g (x .number) u n,
         rest,
@@ -218,7 +222,7 @@ module _ (x : Brought) (g : List ℕ) where
 
       back : Limits x × K × Live g (x .number) × Holds m → Holds (toTen x g K m)
       back (q, b, v, rest) =
-          (q .pool, (b, (q .recovery, (q .attachments, (q .starts, (q .hazards, (q .discounts, (q .accruals, (q .coupons, (inr v, (live-issued g (x .number) v, rest)))))))))))
+          (q .pool, (b, (q .recovery, (q .attachments, (q .starts, (q .hazards, (q .discounts, (q .accruals, (q .elapsed, (q .coupons, (inr v, (live-issued g (x .number) v, rest))))))))))))
 
   pub open-holds : (l : Rows) → Holds (openOrder x g l) ↔ Opening x g l
   open-holds l =

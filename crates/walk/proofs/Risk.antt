@@ -1,4 +1,4 @@
--- On the rows of a walk no jump and no hedge ratio is negative.
+-- On the rows of a walk no default leg makes a jump negative, and with all fractions 0 no jump and no hedge ratio is.
 use Prim.Native.Nat.{ℕ, zero, suc, _+_, _-_, _*_, _≤_, _<_}
 use mathlib.Core.Path.{_≡_, refl, _∙_, ap, subst}
 use mathlib.Core.Bool.{Bool, true, false, cond, true≢false}
@@ -12,7 +12,10 @@ use borrow.Author.Tests.{le-ltb, ltb-true}
 use Rattle.cash.specs.declared.Node.{Node}
 use Rattle.cash.specs.Hedges.{negative, withSign, millionths, changeOf, jumpOf, ratioOf}
 use Rattle.cash.specs.Losses.{defaultPayment}
+use Rattle.sheet.specs.Limits.{TermsWithin}
 use Rattle.sheet.proofs.Limits.{limits-terms}
+use Rattle.tree.specs.Sheet.{NoneElapsed, lossOf}
+use Rattle.rows.specs.Rows.{nodeIn}
 use Rattle.tree.proofs.Sheets.{loss-rises}
 use Rattle.tree.proofs.Statements.{jumps}
 use Rattle.sheet.specs.Brought.{Brought}
@@ -23,7 +26,7 @@ use Rattle.walk.specs.Engine.{Engine}
 use Rattle.walk.specs.CallLists.{Run, end}
 use Rattle.walk.specs.Accuracy.{Walked}
 use Rattle.walk.specs.Promise.{Rules}
-use Rattle.walk.specs.Risk.{hedging, Gains, NeverNegative}
+use Rattle.walk.specs.Risk.{hedging, defaultGain, Gains, NeverNegative}
 use Rattle.walk.proofs.Acceptance.{ratio-taken}
 use Rattle.walk.proofs.Accuracy.{placed, same-sheet}
 
@@ -104,33 +107,47 @@ module _ (e : Engine) (rules : Rules e) (u : Run) (z h : ℕ) (w : Walked e u z 
   abbrev x : Brought
   x = u .catalogue .sheet z
 
-  no-less : (j k : ℕ) → j ≤ x .sheet .tranches → k < x .sheet .names → negative (jump x (end e u .rows) j k) ≡ false
-  unfolding jump nodeOf defaultPayment
-  no-less j k l m =
-      let p = placed e rules u z h w in
-      let inside = limits-terms x (p .stood .limits) in
-      let s = jumps (x .sheet) inside in
-      let i = x .sheet .steps - h in
-      let k≤n : k ≤ x .sheet .names = omega arith in
-      jump-up (getD (x .coupons) j 0) _ _ (loss-rises (x .sheet) (inside .tranches) j k)
-      (omega (arith, p .rows .default j k l k≤n, p .rows .default j (suc k) l m, s .default j h i k m))
-      (omega (arith, p .rows .premium j k l k≤n, p .rows .premium j (suc k) l m, s .premium j h i k m))
+  abbrev inside : TermsWithin (x .sheet)
+  inside = limits-terms x (placed e rules u z h w .stood .limits)
 
-  ratio : (y j k : ℕ) → accepted (hedging e u y j k .said) ≡ true → (n : ℕ) × (hedging e u y j k .said ≡ says (pos n ∷ []))
-  unfolding hedging
-  ratio y j k t =
-      let r = rules .ratio (u .catalogue .sheet y) (end e u .register) (end e u .walk) (end e u .rows) j k in
-      let a = ratio-taken (u .catalogue .sheet y) (end e u .register) (end e u .walk) (end e u .rows) _ j k r .0 t in
-      let b : u .catalogue .sheet y ≡ x = same-sheet e rules u z h w y (a .0 .walk) in
-      let j≤r : j ≤ x .sheet .tranches = subst (λ x. j ≤ x .sheet .tranches) b (a .1) in
-      let k<n : k < x .sheet .names = subst (λ x. k < x .sheet .names) b (a .2) in (
-        _,
-        r .does t .said ∙ ap (λ x. says (ratioOf (jump x (end e u .rows) j k) (jump x (end e u .rows) (x .sheet .tranches) k) ∷ [])) b
-            ∙ ap (λ q. says (q ∷ [])) (ratio-up _ _ (no-less j k j≤r k<n) (no-less (x .sheet .tranches) k (le-refl _) k<n)),
-      )
+  -- what the default leg loses by a default is no more than the loss
+  leg-kept : (j k : ℕ) → j ≤ x .sheet .tranches → k < x .sheet .names →
+      nodeIn (x .sheet) (end e u .rows .defaults) j k
+      ≤ lossOf (x .sheet) j (suc k) - lossOf (x .sheet) j k + nodeIn (x .sheet) (end e u .rows .defaults) j (suc k)
+  unfolding defaultPayment
+  leg-kept j k l m =
+      let p = placed e rules u z h w in
+      let k≤n : k ≤ x .sheet .names = omega arith in
+      omega (arith, p .rows .default j k l k≤n, p .rows .default j (suc k) l m, jumps (x .sheet) inside .default j h (x .sheet .steps - h) k m)
+
+  gain : (j k : ℕ) → j ≤ x .sheet .tranches → k < x .sheet .names → negative (defaultGain (x .sheet) (end e u .rows) j k) ≡ false
+  unfolding defaultGain
+  gain j k l m = both-rise _ _ _ _ (loss-rises (x .sheet) (inside .tranches) j k) (leg-kept j k l m)
+
+  module _ (none : NoneElapsed (x .sheet)) where
+    no-less : (j k : ℕ) → j ≤ x .sheet .tranches → k < x .sheet .names → negative (jump x (end e u .rows) j k) ≡ false
+    unfolding jump nodeOf
+    no-less j k l m =
+        let p = placed e rules u z h w in
+        let k≤n : k ≤ x .sheet .names = omega arith in
+        jump-up (getD (x .coupons) j 0) _ _ (loss-rises (x .sheet) (inside .tranches) j k) (leg-kept j k l m)
+        (omega (arith, p .rows .premium j k l k≤n, p .rows .premium j (suc k) l m, jumps (x .sheet) inside .premium none j h (x .sheet .steps - h) k m))
+
+    ratio : (y j k : ℕ) → accepted (hedging e u y j k .said) ≡ true → (n : ℕ) × (hedging e u y j k .said ≡ says (pos n ∷ []))
+    unfolding hedging
+    ratio y j k t =
+        let r = rules .ratio (u .catalogue .sheet y) (end e u .register) (end e u .walk) (end e u .rows) j k in
+        let a = ratio-taken (u .catalogue .sheet y) (end e u .register) (end e u .walk) (end e u .rows) _ j k r .0 t in
+        let b : u .catalogue .sheet y ≡ x = same-sheet e rules u z h w y (a .0 .walk) in
+        let j≤r : j ≤ x .sheet .tranches = subst (λ x. j ≤ x .sheet .tranches) b (a .1) in
+        let k<n : k < x .sheet .names = subst (λ x. k < x .sheet .names) b (a .2) in (
+          _,
+          r .does t .said ∙ ap (λ x. says (ratioOf (jump x (end e u .rows) j k) (jump x (end e u .rows) (x .sheet .tranches) k) ∷ [])) b
+              ∙ ap (λ q. says (q ∷ [])) (ratio-up _ _ (no-less j k j≤r k<n) (no-less (x .sheet .tranches) k (le-refl _) k<n)),
+        )
 
   gains : Gains e u x
-  gains = record { jump = λ j k l m. natural _ (no-less j k l m); ratio = ratio }
+  gains = record { default = λ j k l m. natural _ (gain j k l m); jump = λ none j k l m. natural _ (no-less none j k l m); ratio = ratio }
 
 pub never-negative : (e : Engine) → Rules e → NeverNegative e
 never-negative e rules u y h w = gains e rules u y h w

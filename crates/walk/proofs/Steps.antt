@@ -5,12 +5,12 @@ use native.Mathlib.Omega.{arith}
 use native.Mathlib.Nat.{add-zero}
 use lib.ListN.{length, getD}
 use Rattle.cash.specs.Units.{half}
-use Rattle.cash.specs.Losses.{defaultPayment, premiumPayment}
+use Rattle.cash.specs.Losses.{defaultPayment, premiumPayment, elapsedPayment}
 use Rattle.tree.specs.Backward.{rollNode, backFrom, back, legValue}
-use Rattle.tree.specs.Legs.{defaultCash, premiumCash}
+use Rattle.tree.specs.Legs.{defaultCash, premiumCash, elapsedCash}
 use Rattle.sheet.specs.Terms.{Terms}
 use Rattle.sheet.specs.Limits.{TermsWithin}
-use Rattle.tree.specs.Sheet.{hazardOf, discountOf, accrualOf, lossOf, outstandingOf, treeOf, defaultOf, premiumOf, D, A}
+use Rattle.tree.specs.Sheet.{hazardOf, discountOf, accrualOf, elapsedOf, lossOf, outstandingOf, treeOf, defaultOf, premiumOf, D, A}
 use Rattle.tree.proofs.Statements.{ceilings}
 use Rattle.rows.specs.Rows.{nodeIn, Rows, AtEveryNode}
 use Rattle.rows.proofs.Rolled.{node-same}
@@ -39,10 +39,12 @@ unfolding D legValue back backFrom treeOf defaultOf defaultCash defaultPayment
 D-step x j h i k = rw (add-zero (backFrom _ _ _ h (suc i) k))
 
 A-step : (x : Terms) (j h i k : ℕ) →
-    rollNode (hazardOf x (suc i) k) (discountOf x (suc i)) (A x j h (suc i) (suc k) + half (getD (x .accruals) i 0 * outstandingOf x j (suc k)))
+    rollNode (hazardOf x (suc i) k) (discountOf x (suc i))
+    (A x j h (suc i) (suc k)
+    + (half (getD (x .accruals) i 0 * outstandingOf x j (suc k)) + half (getD (x .elapsed) i 0 * (outstandingOf x j k - outstandingOf x j (suc k)))))
     (A x j h (suc i) k + half (getD (x .accruals) i 0 * outstandingOf x j k)) ≡ A x j (suc h) i k
-unfolding A legValue back backFrom treeOf premiumOf premiumCash premiumPayment accrualOf
-A-step x j h i k = refl
+unfolding A legValue back backFrom treeOf premiumOf premiumCash premiumPayment elapsedCash elapsedPayment accrualOf elapsedOf
+A-step x j h i k = rw (add-zero (half (getD (x .accruals) i 0 * outstandingOf x j k)))
 
 pub step : (x : Terms) (h i : ℕ) (l m : Rows) → BackStep x i l m → Holding x h (suc i) l → Holding x (suc h) i m
 step x h i l m s q =
@@ -55,7 +57,10 @@ step x h i l m s q =
       premium = λ j k p r.
           s .premium j k p r ∙ sym (rule-is x i k _ _)
           ∙ node-same x (suc i) k (discountOf x (suc i)) _ _ _ _
-          (λ b. ap (λ y. y + half (getD (x .accruals) i 0 * outstandingOf x j (suc k))) (q .premium j (suc k) p b))
+          (λ b.
+          ap (λ y.
+          y + (half (getD (x .accruals) i 0 * outstandingOf x j (suc k)) + half (getD (x .elapsed) i 0 * (outstandingOf x j k - outstandingOf x j (suc k)))))
+          (q .premium j (suc k) p b))
           (ap (λ y. y + half (getD (x .accruals) i 0 * outstandingOf x j k)) (q .premium j k p r))
           ∙ A-step x j h i k;
     }

@@ -6,12 +6,12 @@ use native.Mathlib.Nat.{add-zero}
 use native.Mathlib.Omega.{arith}
 use lib.ListN.{length, getD}
 use Rattle.cash.specs.Units.{half}
-use Rattle.cash.specs.Losses.{defaultPayment, premiumPayment}
+use Rattle.cash.specs.Losses.{defaultPayment, premiumPayment, elapsedPayment}
 use Rattle.tree.specs.Paths.{survive, default}
 use Rattle.tree.specs.Backward.{rollNode, Leg}
-use Rattle.tree.specs.Legs.{defaultCash, premiumCash}
+use Rattle.tree.specs.Legs.{defaultCash, premiumCash, elapsedCash}
 use Rattle.sheet.specs.Terms.{Terms}
-use Rattle.tree.specs.Sheet.{hazardOf, discountOf, accrualOf, lossOf, outstandingOf, defaultOf, premiumOf}
+use Rattle.tree.specs.Sheet.{hazardOf, discountOf, accrualOf, elapsedOf, lossOf, outstandingOf, defaultOf, premiumOf}
 use Rattle.rows.specs.Rows.{nodeIn, rolled, rolledBack, Rows, rowLength}
 use Rattle.rows.proofs.Tables.{length-row, node-row, is-row}
 use Rattle.rows.proofs.Rolled.{length-rolled, rolled-entry, rolled-join}
@@ -46,13 +46,14 @@ module _ (x : Terms) (j i k : ℕ) where
   unfolding defaultOf defaultCash
   default-survived = refl
 
-  pub premium-defaulted : premiumOf x j .rounded (suc i) k default ≡ half (getD (x .accruals) i 0 * outstandingOf x j (suc k))
-  unfolding premiumOf premiumCash premiumPayment accrualOf
+  pub premium-defaulted : premiumOf x j .rounded (suc i) k default
+      ≡ half (getD (x .accruals) i 0 * outstandingOf x j (suc k)) + half (getD (x .elapsed) i 0 * (outstandingOf x j k - outstandingOf x j (suc k)))
+  unfolding premiumOf premiumCash premiumPayment elapsedCash elapsedPayment accrualOf elapsedOf
   premium-defaulted = refl
 
   pub premium-survived : premiumOf x j .rounded (suc i) k survive ≡ half (getD (x .accruals) i 0 * outstandingOf x j k)
-  unfolding premiumOf premiumCash premiumPayment accrualOf
-  premium-survived = refl
+  unfolding premiumOf premiumCash premiumPayment elapsedCash accrualOf
+  premium-survived = add-zero _
 
 -- Both rows one step back.
 unfoldable pub stepRows : Terms → ℕ → Rows → Rows

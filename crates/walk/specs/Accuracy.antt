@@ -1,6 +1,6 @@
 -- Demand 3: what stands in the rows after any list of calls and how near it lies to the exact values, and that a withdrawn number shows none.
 -- Letters as in document 01: tranche j, count k, h steps walked back. `e` is the engine, any one that has the seven calls, `y` a sheet's number.
-use Prim.Native.Nat.{ℕ, _+_, _-_, _*_, _^_, _≤_}
+use Prim.Native.Nat.{ℕ, suc, _+_, _-_, _*_, _^_, _≤_}
 use mathlib.Core.Path.{_≡_}
 use mathlib.Core.Bool.{true, false}
 use mathlib.Core.List.{[], _∷_}
@@ -13,7 +13,7 @@ use Rattle.cash.specs.Sums.{sumTo}
 use Rattle.cash.specs.Hedges.{netValue}
 use Rattle.sheet.specs.Terms.{Terms}
 use Rattle.sheet.specs.Brought.{Brought}
-use Rattle.tree.specs.Sheet.{accrualOf, outstandingOf, D, A, exactD, exactA, dates, WholePool, spanning}
+use Rattle.tree.specs.Sheet.{accrualOf, elapsedOf, outstandingOf, D, A, exactD, exactA, premiumHalves, WholePool, spanning}
 use Rattle.rows.specs.Rows.{nodeIn, AtEveryNode}
 use Rattle.walk.specs.Answers.{Said, accepted}
 use Rattle.walk.specs.RefusalOrders.{RefusalOrder, isEarly, valueOrder}
@@ -59,19 +59,24 @@ pub record ShownValue (e : Engine) (run : Run) (x : Brought) (y j k : ℕ) : Typ
 
 -- Where the attachment points run from 0 to B, the premiums of the tranches are those of the index, tranche r of the same rows. (T-12)
 pub record IndexAccuracy (e : Engine) (run : Run) (sheet : Terms) (h : ℕ) : Type 0 where
-  -- Before any rounding, the cash of each step at each count adds without a unit's difference.
-  pub cash : (s k : ℕ) →
+  -- Before any rounding, what each step pays at each count adds without a unit's difference,
+  pub dates : (s k : ℕ) →
       sumTo (sheet .tranches) (λ j. accrualOf sheet s * outstandingOf sheet j k) ≡ accrualOf sheet s * outstandingOf sheet (sheet .tranches) k
+  -- and so does what a default pays up to it. (T-01)
+  pub elapsed : (s k : ℕ) →
+      sumTo (sheet .tranches) (λ j. elapsedOf sheet s * (outstandingOf sheet j k - outstandingOf sheet j (suc k)))
+      ≡ elapsedOf sheet s * (outstandingOf sheet (sheet .tranches) k - outstandingOf sheet (sheet .tranches) (suc k))
   -- So do the exact values.
   pub exact : (k : ℕ) →
       sumTo (sheet .tranches) (λ j. exactA sheet j h (positionAfter sheet h) k) ≡ exactA sheet (sheet .tranches) h (positionAfter sheet h) k
   -- The premium legs in the rows do so within the distances of all r + 1 of them (doubled).
   pub held : (k : ℕ) → k ≤ sheet .names →
-      Near ((sheet .tranches + 1) * (2 * h + dates sheet h (positionAfter sheet h)))
+      Near ((sheet .tranches + 1) * premiumHalves sheet h (positionAfter sheet h))
       (2 * sumTo (sheet .tranches) (λ j. heldA e run sheet j k)) (2 * heldA e run sheet (sheet .tranches) k)
 
 -- What is found where a list ends that walked h steps back on x.
--- Exact values are whole numbers over B ^ (2 h + 1). Distances of A are doubled, so that half a unit for each premium date is whole.
+-- Exact values are whole numbers over B ^ (2 h + 1). Distances of A are doubled, so that half a unit for each premium date and
+-- each elapsed fraction is whole.
 -- `second` is a second list, on a sheet of one tranche with the same outer attachment points, equal but for number and coupons, walked as far.
 pub record WalkAccuracy (e : Engine) (run : Run) (x : Brought) (h : ℕ) : Type 0 where
   -- No more steps were walked than the sheet has.
@@ -85,9 +90,9 @@ pub record WalkAccuracy (e : Engine) (run : Run) (x : Brought) (h : ℕ) : Type 
   -- Each default leg lies within h units of its exact value.
   pub default-near : AtEveryNode (x .sheet) (λ j k.
       Near (h * B ^ (2 * h + 1)) (heldD e run (x .sheet) j k * B ^ (2 * h + 1)) (exactD (x .sheet) j h (positionAfter (x .sheet) h) k))
-  -- Each premium leg lies within h units and half a unit for each premium date among those steps.
+  -- Each premium leg lies within h units, and half a unit for each premium date and for each elapsed fraction among those steps.
   pub premium-near : AtEveryNode (x .sheet) (λ j k.
-      Near ((2 * h + dates (x .sheet) h (positionAfter (x .sheet) h)) * B ^ (2 * h + 1))
+      Near (premiumHalves (x .sheet) h (positionAfter (x .sheet) h) * B ^ (2 * h + 1))
       (2 * (heldA e run (x .sheet) j k * B ^ (2 * h + 1))) (2 * exactA (x .sheet) j h (positionAfter (x .sheet) h) k))
   -- A value call that is accepted here shows these legs, whatever number it brings.
   pub shown : (y j k : ℕ) → accepted (answers e run (value y ownRows j k)) ≡ true → ShownValue e run x y j k
@@ -96,7 +101,7 @@ pub record WalkAccuracy (e : Engine) (run : Run) (x : Brought) (h : ℕ) : Type 
       Near ((x .sheet .tranches + 1) * h) (sumTo (x .sheet .tranches) (λ j. heldD e run (x .sheet) j k)) (heldD e second (spanning (x .sheet)) 0 k)
   -- So do their premium legs.
   pub premiums-add : (second : Run) (y : ℕ) → sheetIn second y .sheet ≡ spanning (x .sheet) → Walked e second y h → (k : ℕ) → k ≤ x .sheet .names →
-      Near ((x .sheet .tranches + 1) * (2 * h + dates (x .sheet) h (positionAfter (x .sheet) h)))
+      Near ((x .sheet .tranches + 1) * premiumHalves (x .sheet) h (positionAfter (x .sheet) h))
       (2 * sumTo (x .sheet .tranches) (λ j. heldA e run (x .sheet) j k)) (2 * heldA e second (spanning (x .sheet)) 0 k)
   -- Of a sheet whose tranches are the whole pool, they add to the index's too, in these rows.
   pub premiums-of-index : WholePool (x .sheet) → IndexAccuracy e run (x .sheet) h

@@ -57,10 +57,13 @@ pub record BackStep (x : Terms) (i : ℕ) (old new : Rows) : Type 0 where
   pub default : AtEveryNode x (λ j k.
       nodeIn x (new .defaults) j k
       ≡ backwardRule x i k (nodeIn x (old .defaults) j (suc k) + (lossOf x j (suc k) - lossOf x j k)) (nodeIn x (old .defaults) j k))
-  -- So does each premium leg; the step adds the premium on what is outstanding after it.
+  -- So does each premium leg; the step adds the premium on what is outstanding after it, and a default the premium earned up to it, on what it takes
+  -- off. (T-01, on the second)
   pub premium : AtEveryNode x (λ j k.
       nodeIn x (new .premiums) j k
-      ≡ backwardRule x i k (nodeIn x (old .premiums) j (suc k) + half (getD (x .accruals) i 0 * outstandingOf x j (suc k)))
+      ≡ backwardRule x i k
+      (nodeIn x (old .premiums) j (suc k)
+      + (half (getD (x .accruals) i 0 * outstandingOf x j (suc k)) + half (getD (x .elapsed) i 0 * (outstandingOf x j k - outstandingOf x j (suc k)))))
       (nodeIn x (old .premiums) j k + half (getD (x .accruals) i 0 * outstandingOf x j k)))
 
 -- Rows `new`, c steps back from rows `old` at position i.

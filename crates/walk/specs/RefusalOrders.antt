@@ -14,7 +14,7 @@ use Rattle.figures.specs.Nodes.{jump}
 use Rattle.rows.specs.Rows.{rowLength, nodeIn, Rows, AtEveryNode}
 use Rattle.sheet.specs.Brought.{Brought}
 use Rattle.sheet.specs.Limits.{PoolInside, ListsFit, RecoveryInside, AttachmentsRise, StartsRise}
-use Rattle.sheet.specs.Limits.{HazardsInside, DiscountsInside, AccrualsInside, CouponsInside}
+use Rattle.sheet.specs.Limits.{HazardsInside, DiscountsInside, AccrualsInside, ElapsedInside, CouponsInside}
 use Rattle.walk.specs.declared.Walk.{Walk}
 use Rattle.walk.specs.Answers.{Said}
 
@@ -53,12 +53,12 @@ pub record Clean (x : Terms) (i : ℕ) (rows : Rows) : Type 0 where
 abbrev pub RefusalOrder : Type 1
 RefusalOrder = List (Type 0 × ℕ)
 
--- 25 stands before 5. (T-06)
+-- 25 stands before 5 and 21 after 7. (T-06, T-01)
 abbrev pub toTen : Brought → List ℕ → Type 0 → RefusalOrder → RefusalOrder
 toTen x register lengths more =
     (PoolInside (x .sheet), 1) ∷ (lengths, 2) ∷ (RecoveryInside (x .sheet), 3) ∷ (AttachmentsRise (x .sheet), 4) ∷ (StartsRise (x .sheet), 25)
-    ∷ (HazardsInside (x .sheet), 5) ∷ (DiscountsInside (x .sheet), 6) ∷ (AccrualsInside (x .sheet), 7) ∷ (CouponsInside x, 8)
-    ∷ (Unissued register (x .number) ⊎ Live register (x .number), 9) ∷ (¬ (Unissued register (x .number)), 10) ∷ more
+    ∷ (HazardsInside (x .sheet), 5) ∷ (DiscountsInside (x .sheet), 6) ∷ (AccrualsInside (x .sheet), 7) ∷ (ElapsedInside (x .sheet), 21)
+    ∷ (CouponsInside x, 8) ∷ (Unissued register (x .number) ⊎ Live register (x .number), 9) ∷ (¬ (Unissued register (x .number)), 10) ∷ more
 
 abbrev pub issueOrder : List ℕ → ℕ → RefusalOrder
 issueOrder register y = (length register ≡ 256, 2) ∷ (Unissued register y ⊎ Live register y, 9) ∷ (¬ (Live register y), 17) ∷ []
