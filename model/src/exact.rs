@@ -1,11 +1,11 @@
 //! Exact values by brute force (document 01, end of "Walking back" and
-//! "Going forward").
+//! "Going forward", and T-01).
 //!
 //! Every list of moves is written out and its cash added up, with nothing
 //! rounded. The backward rule is not used, so that it can be measured
 //! against these values. The work doubles with each step.
 
-use crate::cash::{default_payment, premium_payment_over_b};
+use crate::cash::{default_payment, elapsed_payment_over_b, premium_payment_over_b};
 use crate::natural::Natural;
 use crate::sheet::{Sheet, B};
 
@@ -46,10 +46,16 @@ pub fn default_leg(sheet: &Sheet, position: usize, tranche: usize, count: usize)
     expected_cash(sheet, position, count, cash)
 }
 
-/// The exact premium leg, over the same power of B as the default leg.
+/// The exact premium leg, over the same power of B as the default leg. A
+/// default brings what was earned up to it, beside the premium of its step.
 pub fn premium_leg(sheet: &Sheet, position: usize, tranche: usize, count: usize) -> Natural {
     let cash = |step: usize, before: usize, next: Move| {
-        premium_payment_over_b(sheet, tranche, step, count_after(before, &[next]))
+        let earned = match next {
+            Move::Stay => 0,
+            Move::Default => elapsed_payment_over_b(sheet, tranche, step, before),
+        };
+        let after = count_after(before, &[next]);
+        premium_payment_over_b(sheet, tranche, step, after) + earned
     };
     expected_cash(sheet, position, count, cash)
 }

@@ -4,7 +4,7 @@
 
 mod common;
 
-use common::{spanning_sheet, Random};
+use common::{fractions_after, spanning_sheet, Random};
 use lavroudem_model::exact;
 use lavroudem_model::natural::Natural;
 use lavroudem_model::refusal::Refusal;
@@ -297,7 +297,7 @@ impl<'a> Run<'a> {
         }
     }
 
-    /// The walk at m - h, and every leg within its distance: 2h and 2h + q
+    /// The walk at m - h, and every leg within its distance: 2h and 2h + q + f
     /// when doubled.
     fn assert_found(&self, tally: &mut Tally) {
         let Some((subject, steps)) = self.opened else {
@@ -316,7 +316,7 @@ impl<'a> Run<'a> {
             return;
         }
         let denominator = exact::leg_denominator(sheet, position);
-        let limits = [2 * steps, 2 * steps + premium_dates(sheet, steps)];
+        let limits = doubled_limits(sheet, steps);
         for (here, (default, premium)) in exact[position].iter().enumerate() {
             let legs = [self.rows.default_row[here], self.rows.premium_row[here]];
             for ((leg, exact), limit) in legs.into_iter().zip([default, premium]).zip(limits) {
@@ -341,10 +341,13 @@ fn kind(call: Call) -> usize {
     }
 }
 
-/// q: premium dates among the last `steps` steps.
-fn premium_dates(sheet: &Sheet, steps: usize) -> usize {
+/// Twice the distances after h steps: 2h, and 2h + q + f with the premium dates
+/// and the fractions among these steps.
+fn doubled_limits(sheet: &Sheet, steps: usize) -> [usize; 2] {
     let passed = &sheet.accruals[sheet.steps - steps..];
-    passed.iter().filter(|&&accrual| accrual != 0).count()
+    let dates = passed.iter().filter(|&&accrual| accrual != 0).count();
+    let fractions = fractions_after(sheet, sheet.steps - steps);
+    [2 * steps, 2 * steps + dates + fractions]
 }
 
 /// Two sheets with numbers of their own, often alike in shape.
@@ -437,8 +440,7 @@ fn walk_the_span(span: &Subject, steps: usize, random: &mut Random, tally: &mut 
 /// (r + 1) distances. Says how many sums differ at all.
 fn compare_with_span(sheet: &Sheet, rows: &Pair, span: &Subject, whole: &Pair, h: usize) -> usize {
     let parts = sheet.tranches as u64 + 1;
-    let default_limit = parts * 2 * h as u64;
-    let premium_limit = parts * (2 * h + premium_dates(sheet, h)) as u64;
+    let [default_limit, premium_limit] = doubled_limits(sheet, h).map(|once| parts * once as u64);
     let mut differ = 0;
     for count in 0..=sheet.names {
         let sum = |row: &[u64]| -> u64 {
