@@ -65,6 +65,17 @@ pub fn leg_denominator(sheet: &Sheet, position: usize) -> Natural {
     Natural::power_of_b(2 * (sheet.steps - position) + 1)
 }
 
+/// Twice the distances that legs walked from the end to `position` may be off:
+/// 2h for D and 2h + q + f for A, with h steps, q premium dates and f fractions
+/// other than 0 on the way.
+pub fn doubled_distances(sheet: &Sheet, position: usize) -> [usize; 2] {
+    let walked = position + 1..=sheet.steps;
+    let dates = walked.clone().filter(|&step| sheet.is_premium_date(step));
+    let fractions = walked.filter(|&step| sheet.elapsed(step) != 0);
+    let steps = 2 * (sheet.steps - position);
+    [steps, steps + dates.count() + fractions.count()]
+}
+
 /// The exact chances of 0 to n defaults after `steps` steps from none, as
 /// numerators over B^steps.
 pub fn distribution(sheet: &Sheet, steps: usize) -> Vec<Natural> {

@@ -4,7 +4,7 @@
 
 mod common;
 
-use common::{fractions_after, spanning_sheet, Random};
+use common::{spanning_sheet, Random};
 use lavroudem_model::exact;
 use lavroudem_model::natural::Natural;
 use lavroudem_model::refusal::Refusal;
@@ -316,7 +316,7 @@ impl<'a> Run<'a> {
             return;
         }
         let denominator = exact::leg_denominator(sheet, position);
-        let limits = doubled_limits(sheet, steps);
+        let limits = exact::doubled_distances(sheet, position);
         for (here, (default, premium)) in exact[position].iter().enumerate() {
             let legs = [self.rows.default_row[here], self.rows.premium_row[here]];
             for ((leg, exact), limit) in legs.into_iter().zip([default, premium]).zip(limits) {
@@ -339,15 +339,6 @@ fn kind(call: Call) -> usize {
         Call::Back(..) => 3,
         Call::Value(..) => 4,
     }
-}
-
-/// Twice the distances after h steps: 2h, and 2h + q + f with the premium dates
-/// and the fractions among these steps.
-fn doubled_limits(sheet: &Sheet, steps: usize) -> [usize; 2] {
-    let passed = &sheet.accruals[sheet.steps - steps..];
-    let dates = passed.iter().filter(|&&accrual| accrual != 0).count();
-    let fractions = fractions_after(sheet, sheet.steps - steps);
-    [2 * steps, 2 * steps + dates + fractions]
 }
 
 /// Two sheets with numbers of their own, often alike in shape.
@@ -440,7 +431,8 @@ fn walk_the_span(span: &Subject, steps: usize, random: &mut Random, tally: &mut 
 /// (r + 1) distances. Says how many sums differ at all.
 fn compare_with_span(sheet: &Sheet, rows: &Pair, span: &Subject, whole: &Pair, h: usize) -> usize {
     let parts = sheet.tranches as u64 + 1;
-    let [default_limit, premium_limit] = doubled_limits(sheet, h).map(|once| parts * once as u64);
+    let once = exact::doubled_distances(sheet, sheet.steps - h);
+    let [default_limit, premium_limit] = once.map(|limit| parts * limit as u64);
     let mut differ = 0;
     for count in 0..=sheet.names {
         let sum = |row: &[u64]| -> u64 {

@@ -3,7 +3,7 @@
 
 mod common;
 
-use common::{fractions_after, plain_sheet, spanning_sheet, Random, B};
+use common::{plain_sheet, spanning_sheet, Random, B};
 use lavroudem_model::cash::{
     default_payment, elapsed_payment_over_b, outstanding, premium_payment_over_b,
 };
@@ -50,16 +50,6 @@ fn nodes(sheet: &Sheet) -> Vec<(usize, usize)> {
         }
     }
     nodes
-}
-
-/// Twice the distance owed at a position: (2h, 2h + q + f).
-fn doubled_limits(sheet: &Sheet, position: usize) -> (usize, usize) {
-    let steps = sheet.steps - position;
-    let dates = (position + 1..=sheet.steps)
-        .filter(|&step| sheet.is_premium_date(step))
-        .count();
-    let fractions = fractions_after(sheet, position);
-    (2 * steps, 2 * steps + dates + fractions)
 }
 
 /// Twice the distance of a rounded leg from its exact value, over the
@@ -128,7 +118,7 @@ fn legs_are_within_their_distances() {
     for sheet in trees() {
         for (position, rows) in rows_by_position(&sheet).iter().enumerate() {
             let denominator = exact::leg_denominator(&sheet, position);
-            let (default_limit, premium_limit) = doubled_limits(&sheet, position);
+            let [default_limit, premium_limit] = exact::doubled_distances(&sheet, position);
             for (tranche, count) in nodes(&sheet) {
                 let rounded = default_leg(&sheet, rows, tranche, count);
                 let exact = exact::default_leg(&sheet, position, tranche, count);
@@ -266,7 +256,7 @@ fn tranches_add_to_the_one_that_spans_them() {
                 let whole = exact::premium_leg(&span, position, 0, count);
                 assert_eq!(exact_premium, whole);
 
-                let (default_limit, premium_limit) = doubled_limits(&sheet, position);
+                let [default_limit, premium_limit] = exact::doubled_distances(&sheet, position);
                 let parts = sheet.tranches + 1;
                 let whole = default_leg(&span, &span_rows[position], 0, count);
                 assert!(2 * default.abs_diff(whole) <= (parts * default_limit) as u128);
@@ -292,7 +282,7 @@ fn tranches_of_the_whole_pool_add_to_the_index() {
         assert_eq!(check(&sheet), Ok(()));
         let index = sheet.index();
         for (position, rows) in rows_by_position(&sheet).iter().enumerate() {
-            let (_, limit) = doubled_limits(&sheet, position);
+            let [_, limit] = exact::doubled_distances(&sheet, position);
             for count in 0..=sheet.names {
                 let sum = |figure: &dyn Fn(usize) -> u128| (0..index).map(figure).sum::<u128>();
                 let left = |tranche| outstanding(&sheet, tranche, count);

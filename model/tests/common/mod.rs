@@ -129,13 +129,6 @@ pub fn raise_fraction(sheet: &mut Sheet, place: usize) {
     }
 }
 
-/// How many of the steps behind a position have a fraction: f, if it is where
-/// a walk from the end stands.
-pub fn fractions_after(sheet: &Sheet, position: usize) -> usize {
-    let behind = &sheet.elapsed[position..];
-    behind.iter().filter(|&&fraction| fraction != 0).count()
-}
-
 /// The one-tranche sheet with the same outer attachment points; its number
 /// and coupons are its own.
 pub fn spanning_sheet(sheet: &Sheet) -> Sheet {
