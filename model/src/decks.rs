@@ -56,7 +56,7 @@ pub fn oversized(random: &mut Random) -> Vec<u8> {
         _ => (pool(&sheet), 1),
     };
     let place = random.below(commands.len());
-    for _ in 0..random.between(1, limit as u64) {
+    for _ in 0..random.with_edges(1, limit as u64) {
         commands.insert(place, extra.clone());
     }
     let mut deck = commands.concat();

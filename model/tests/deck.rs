@@ -769,6 +769,50 @@ fn another_count_of_fractions_is_refused_its_length() {
     }
 }
 
+/// The steps of a deck's pool and the fractions that it enters, up to where it
+/// stops.
+fn steps_and_fractions(deck: &[u8]) -> (u64, Vec<u64>) {
+    let (mut at, mut steps, mut fractions) = (0, 0, Vec::new());
+    while at < deck.len() {
+        let Ok(read) = decode(&deck[at..]) else { break };
+        match read.command.byte {
+            POOL => steps = read.operands()[1],
+            ELAPSED => fractions.push(read.operands()[0]),
+            _ => {}
+        }
+        at += read.length;
+    }
+    (steps, fractions)
+}
+
+/// None, zeros, others that are accepted, too high ones, another count, and one
+/// more than a deck may have.
+#[test]
+fn random_decks_have_fractions_of_every_kind() {
+    let mut random = Random::new(26);
+    let [mut none, mut zeros, mut others, mut high, mut count, mut most] = [0; 6];
+    for at in 0..4_000 {
+        let deck = match at % 20 {
+            0 => decks::oversized(&mut random),
+            _ => decks::any(&mut random),
+        };
+        let listing = printed(&deck);
+        let (steps, fractions) = steps_and_fractions(&deck);
+        let accepted = listing.contains("value 0 ");
+        let all = fractions.len() as u64 == steps;
+        let zero = fractions.iter().all(|&fraction| fraction == 0);
+        none += usize::from(accepted && fractions.is_empty());
+        zeros += usize::from(accepted && all && zero);
+        others += usize::from(accepted && all && !zero);
+        high += usize::from(listing.contains("open 21\n"));
+        let other = !fractions.is_empty() && !all;
+        count += usize::from(other && listing.contains("open 2\n"));
+        most += usize::from(fractions.len() > 3_650 && listing.contains("deck 20 "));
+    }
+    let kinds = [none, zeros, others, high, count, most];
+    assert!(kinds.iter().all(|&kind| kind >= 5), "{kinds:?}");
+}
+
 /// Before the pool, among the lists, or after an open: calls see the fractions
 /// that stand there when they come. While there are too few, none is accepted.
 #[test]
