@@ -461,8 +461,8 @@ fn bytes() -> Vec<Edge> {
     vec![byte(0x00..=0x00), byte(0xA4..=0xA6), byte(0xFE..=0xFF)]
 }
 
-/// 11. At the last step nearly no premium is left, so these rows are over their
-/// ceilings there: 12.
+/// 11, and 12 beside it: at the last step nearly no premium is left, so these
+/// rows are over their ceilings there.
 fn walks() -> Vec<Edge> {
     vec![
         edge("open", 0..=1, MADE_UP),

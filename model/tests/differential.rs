@@ -355,15 +355,22 @@ fn calls_on_larger_sheets() {
     let mut random = Random::new(0x5EED_0002);
     let mut tally = Tally::default();
     let mut periods = BTreeSet::new();
+    let mut fractions = BTreeSet::new();
     for _ in 0..40 {
         let names = random.with_edges(1, 125) as usize;
         let steps = random.with_edges(1, 60) as usize;
         let tranches = random.with_edges(1, 8) as usize;
         let sheet = random.sheet(names, steps, tranches);
         periods.insert(sheet.starts.len());
+        fractions.insert(has_fractions(&sheet));
         trial(&mut random, sheet, &mut tally);
     }
     assert!(periods.is_superset(&BTreeSet::from([1, 2, 3, 16])));
+    assert_eq!(fractions, BTreeSet::from([false, true]));
+}
+
+fn has_fractions(sheet: &Sheet) -> bool {
+    sheet.elapsed.iter().any(|&fraction| fraction > 0)
 }
 
 /// The largest tree, to the root in uneven calls.
@@ -371,7 +378,10 @@ fn calls_on_larger_sheets() {
 fn the_largest_tree() {
     let mut random = Random::new(0x5EED_0003);
     let mut tally = Tally::default();
-    let sheet = random.sheet(125, 3_650, 8);
+    let mut sheet = random.sheet(125, 3_650, 8);
+    while !has_fractions(&sheet) {
+        sheet = random.sheet(125, 3_650, 8);
+    }
     let mut desk = walked(&mut random, sheet, &mut tally);
     while desk.walk.position > 0 {
         desk.back_by = random.between(1, 900).min(desk.walk.position as u64) as usize;

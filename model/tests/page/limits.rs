@@ -170,7 +170,7 @@ fn short_decks_are_the_models(page: &str) -> Found {
         ),
         (
             one_of_four.concat(),
-            "one that enters some needs m in all, and until then its calls get".into(),
+            "one that enters some needs m in all: with fewer or more its calls get".into(),
         ),
     ];
     for (deck, said) in decks {
