@@ -1,5 +1,5 @@
 //! Rounding, losses, recoveries and payments (document 01, "Arithmetic and
-//! cash", and T-12).
+//! cash", T-01 and T-12).
 //!
 //! Nothing here knows about rows or about the direction of a walk. Every
 //! function takes a sheet that passed its checks.
@@ -100,6 +100,20 @@ pub fn premium_payment(sheet: &Sheet, tranche: usize, step: usize, count: usize)
 /// P(i, k) unrounded: the numerator over B.
 pub fn premium_payment_over_b(sheet: &Sheet, tranche: usize, step: usize, count: usize) -> u128 {
     sheet.accrual(step) * outstanding(sheet, tranche, count)
+}
+
+/// The premium earned up to a default, in whole units, as the rows take it:
+/// paid by the step that takes `count` to `count + 1`, and rounded by itself
+/// (T-01).
+pub fn elapsed_payment(sheet: &Sheet, tranche: usize, step: usize, count: usize) -> u128 {
+    half(elapsed_payment_over_b(sheet, tranche, step, count))
+}
+
+/// The same unrounded: the numerator over B. It is earned on what the default
+/// takes off the outstanding notional.
+pub fn elapsed_payment_over_b(sheet: &Sheet, tranche: usize, step: usize, count: usize) -> u128 {
+    let gone = outstanding(sheet, tranche, count) - outstanding(sheet, tranche, count + 1);
+    sheet.elapsed(step) * gone
 }
 
 fn attachment(sheet: &Sheet, tranche: usize) -> u128 {

@@ -1,6 +1,6 @@
 //! The commands of a deck: byte, word and operands (document 01, "Deck and
-//! printing program"). One table serves the run of a deck and, in the crate of
-//! the tool, its text form and the table for people.
+//! printing program", and T-01). One table serves the run of a deck and, in
+//! the crate of the tool, its text form and the table for people.
 
 use crate::refusal::{refuse_if, Refusal};
 
@@ -9,7 +9,6 @@ pub const POOL: u8 = 0x01;
 pub const CUT: u8 = 0x02;
 pub const HAZARD: u8 = 0x03;
 pub const STEP: u8 = 0x04;
-/// The last of the commands that add to the sheet and print nothing.
 pub const COUPON: u8 = 0x05;
 pub const ISSUE: u8 = 0x06;
 pub const WITHDRAW: u8 = 0x07;
@@ -19,6 +18,11 @@ pub const VALUE: u8 = 0x0A;
 /// The hedge ratio.
 pub const DELTA: u8 = 0x0B;
 pub const FORWARD: u8 = 0x0C;
+/// An elapsed fraction.
+pub const ELAPSED: u8 = 0x0D;
+
+/// The commands that add to the sheet and print nothing.
+pub const ENTRIES: [u8; 6] = [POOL, CUT, HAZARD, STEP, COUPON, ELAPSED];
 
 /// The most operands that a command has.
 const MOST_OPERANDS: usize = 5;
@@ -50,7 +54,7 @@ impl Command {
 
     /// Whether it adds to the sheet, and so prints nothing.
     pub fn is_entry(&self) -> bool {
-        self.byte <= COUPON
+        ENTRIES.contains(&self.byte)
     }
 
     /// The command with these operands as it stands in a deck. Of a number
@@ -65,7 +69,7 @@ impl Command {
 }
 
 /// In the order of their bytes, from 01.
-pub static COMMANDS: [Command; 12] = [
+pub static COMMANDS: [Command; 13] = [
     Command::new(
         POOL,
         "pool",
@@ -88,6 +92,7 @@ pub static COMMANDS: [Command; 12] = [
     Command::new(VALUE, "value", &[("tranche", 1), ("count", 1)]),
     Command::new(DELTA, "delta", &[("tranche", 1), ("count", 1)]),
     Command::new(FORWARD, "forward", &[("step", 2), ("count", 1)]),
+    Command::new(ELAPSED, "elapsed", &[("fraction", 4)]),
 ];
 
 fn by_byte(byte: u8) -> Option<&'static Command> {

@@ -1,13 +1,16 @@
-//! The deck and its listing (document 01, "Deck and printing program").
+//! The deck and its listing (document 01, "Deck and printing program", and
+//! T-01).
 //!
-//! The sheet cannot change under an open walk. A pool command comes once, so
-//! n, m, r, R and the number stay; each list only grows, so one that has its
-//! length gets refusal 2 for good with one figure more. The rows lent are
-//! therefore those of one and the same sheet for all accepted calls.
+//! But for elapsed fractions the sheet cannot change under an open walk. A pool
+//! command comes once, so n, m, r, R and the number stay; each list only grows,
+//! so one that has its length gets refusal 2 for good with one figure more.
+//! Elapsed fractions are the exception: none stand for m zeros, and a deck may
+//! enter m of them later. Calls in between get refusal 2, and those behind see
+//! the fractions. The rows lent are those of one pool for all accepted calls.
 
 use crate::commands::{
-    self, Decoded, BACK, COUPON, CUT, DELTA, FORWARD, HAZARD, ISSUE, OPEN, POOL, STEP, VALUE,
-    WITHDRAW,
+    self, Decoded, BACK, COUPON, CUT, DELTA, ELAPSED, FORWARD, HAZARD, ISSUE, OPEN, POOL, STEP,
+    VALUE, WITHDRAW,
 };
 use crate::refusal::{refuse_if, Refusal};
 use crate::register;
@@ -57,6 +60,8 @@ pub const CALLS: Calls = Calls {
 struct Program {
     calls: Calls,
     has_pool: bool,
+    /// Whether a fraction was entered. Until then those of the sheet are zeros.
+    has_elapsed: bool,
     sheet: Sheet,
     register: Vec<u8>,
     walk: Walk,
@@ -73,6 +78,7 @@ impl Program {
         Program {
             calls,
             has_pool: false,
+            has_elapsed: false,
             sheet: empty_sheet(),
             register: register.to_vec(),
             walk: Walk::fresh(),
@@ -102,6 +108,7 @@ fn empty_sheet() -> Sheet {
         hazards: Vec::new(),
         discounts: Vec::new(),
         accruals: Vec::new(),
+        elapsed: Vec::new(),
         coupons: Vec::new(),
     }
 }
@@ -160,8 +167,8 @@ fn run_command(program: &mut Program, deck: &[u8]) -> Result<(usize, String), Re
     Ok((read.length, line))
 }
 
-/// Commands 01 to 05, with check 20. The figures are not looked at here; the
-/// calls that bring the sheet check them.
+/// Commands 01 to 05 and 0D, with check 20. The figures are not looked at here;
+/// the calls that bring the sheet check them.
 fn add_to_sheet(program: &mut Program, read: &Decoded) -> Result<(), Refusal> {
     let sheet = &mut program.sheet;
     match (read.command.byte, read.operands()) {
@@ -173,6 +180,9 @@ fn add_to_sheet(program: &mut Program, read: &Decoded) -> Result<(), Refusal> {
             sheet.tranches = tranches as usize;
             sheet.recovery = recovery;
             sheet.number = number as u8;
+            if !program.has_elapsed {
+                sheet.elapsed = vec![0; sheet.steps];
+            }
             Ok(())
         }
         (CUT, &[point]) => add(&mut sheet.attachments, MAX_TRANCHES + 1, point),
@@ -182,6 +192,13 @@ fn add_to_sheet(program: &mut Program, read: &Decoded) -> Result<(), Refusal> {
             add(&mut sheet.accruals, MAX_STEPS, accrual)
         }
         (COUPON, &[rate]) => add(&mut sheet.coupons, MAX_TRANCHES + 1, rate),
+        (ELAPSED, &[fraction]) => {
+            if !program.has_elapsed {
+                program.has_elapsed = true;
+                sheet.elapsed.clear();
+            }
+            add(&mut sheet.elapsed, MAX_STEPS, fraction)
+        }
         _ => unreachable!("not a sheet command"),
     }
 }

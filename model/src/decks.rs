@@ -1,9 +1,10 @@
 //! Random decks by seed: whole ones, and ones with a limit broken, damaged,
-//! cut short, reordered, oversized or of noise. A deck has one period.
+//! cut short, reordered, oversized or of noise. A deck has one period, and may
+//! leave out elapsed fractions that are all zero.
 
 use crate::commands::{
-    encode, BACK, COMMANDS, COUPON, CUT, DELTA, FORWARD, HAZARD, ISSUE, OPEN, POOL, STEP, VALUE,
-    WITHDRAW,
+    encode, BACK, COMMANDS, COUPON, CUT, DELTA, ELAPSED, FORWARD, HAZARD, ISSUE, OPEN, POOL, STEP,
+    VALUE, WITHDRAW,
 };
 use crate::deck::MAX_DECK;
 use crate::random::Random;
@@ -46,15 +47,16 @@ pub fn any(random: &mut Random) -> Vec<u8> {
 pub fn oversized(random: &mut Random) -> Vec<u8> {
     let sheet = random.small_one_period_sheet();
     let mut commands = whole(random, &sheet);
-    let (extra, limit) = match random.below(5) {
+    let (extra, limit) = match random.below(6) {
         0 => (encode(CUT, &[5]), MAX_TRANCHES + 2),
         1 => (encode(HAZARD, &[5]), MAX_NAMES + 1),
         2 => (encode(STEP, &[B, 1]), MAX_STEPS + 1),
         3 => (encode(COUPON, &[5]), MAX_TRANCHES + 2),
+        4 => (encode(ELAPSED, &[0]), MAX_STEPS + 1),
         _ => (pool(&sheet), 1),
     };
     let place = random.below(commands.len());
-    for _ in 0..random.between(1, limit as u64) {
+    for _ in 0..random.with_edges(1, limit as u64) {
         commands.insert(place, extra.clone());
     }
     let mut deck = commands.concat();
@@ -88,7 +90,7 @@ pub fn longest(random: &mut Random) -> Vec<u8> {
 /// A deck that walks a sheet of one period to the root in one call, and asks
 /// for the value of every tranche and the distribution there.
 pub fn of_sheet(sheet: &Sheet) -> Vec<u8> {
-    let mut commands = entries(&mut Random::new(0), sheet);
+    let mut commands = entries(&mut Random::new(0), &without_zeros(sheet));
     commands.push(of_number(ISSUE, sheet.number));
     commands.push(open());
     commands.push(back(sheet.steps));
@@ -132,13 +134,26 @@ fn forward(steps: usize, count: usize) -> Vec<u8> {
 
 /// The sheet, and then calls on it.
 fn whole(random: &mut Random, sheet: &Sheet) -> Commands {
-    let mut commands = entries(random, sheet);
+    let mut commands = if random.one_in(2) {
+        entries(random, &without_zeros(sheet))
+    } else {
+        entries(random, sheet)
+    };
     commands.push(of_number(ISSUE, sheet.number));
     commands.push(open());
     for _ in 0..random.below(12) {
         commands.push(call(random, sheet));
     }
     commands
+}
+
+/// The sheet as a deck may enter it: m fractions that are zero need no command.
+fn without_zeros(sheet: &Sheet) -> Sheet {
+    let mut shorter = sheet.clone();
+    if sheet.elapsed.len() == sheet.steps && sheet.elapsed.iter().all(|&e| e == 0) {
+        shorter.elapsed.clear();
+    }
+    shorter
 }
 
 /// The commands that make a sheet. They may come in any order, so the lists
@@ -157,6 +172,7 @@ fn entries(random: &mut Random, sheet: &Sheet) -> Commands {
         figures(HAZARD, &sheet.hazards),
         steps.map(|(&v, &a)| encode(STEP, &[v, a])).collect(),
         figures(COUPON, &sheet.coupons),
+        figures(ELAPSED, &sheet.elapsed),
     ];
     let mut commands = Vec::new();
     while piles.iter().any(|pile| !pile.is_empty()) {
@@ -198,7 +214,7 @@ fn break_a_limit(random: &mut Random, sheet: &mut Sheet) {
         random.below(sheet.steps),
         random.below(sheet.tranches + 1),
     );
-    match random.below(16) {
+    match random.below(20) {
         0 => sheet.names = [0, 126, 255][random.below(3)],
         1 => sheet.steps = [0, 3_651, 65_535][random.below(3)],
         2 => sheet.tranches = [0, 9, 255][random.below(3)],
@@ -217,6 +233,10 @@ fn break_a_limit(random: &mut Random, sheet: &mut Sheet) {
         12 => sheet.discounts[i] = [0, high][random.below(2)],
         13 => sheet.accruals[i] = high,
         14 => sheet.accruals[sheet.steps - 1] = 0,
+        15 => sheet.elapsed.push(0),
+        16 => drop(sheet.elapsed.remove(i)),
+        17 => sheet.elapsed[i] = high,
+        18 => sheet.elapsed[i] = sheet.accruals[sheet.next_premium_date(i + 1) - 1] + 1,
         _ => sheet.coupons[j] = random.between(10_000_001, u64::from(u32::MAX)),
     }
 }

@@ -134,6 +134,7 @@ pub fn lend(sheet: &Sheet) -> lavroudem::Sheet {
         hazards: &sheet.hazards,
         discounts: &sheet.discounts,
         accruals: &sheet.accruals,
+        elapsed: &sheet.elapsed,
         coupons: &sheet.coupons,
     };
     lavroudem::Sheet::new(pool, lists)

@@ -1,11 +1,11 @@
 //! Exact values by brute force (document 01, end of "Walking back" and
-//! "Going forward").
+//! "Going forward", and T-01).
 //!
 //! Every list of moves is written out and its cash added up, with nothing
 //! rounded. The backward rule is not used, so that it can be measured
 //! against these values. The work doubles with each step.
 
-use crate::cash::{default_payment, premium_payment_over_b};
+use crate::cash::{default_payment, elapsed_payment_over_b, premium_payment_over_b};
 use crate::natural::Natural;
 use crate::sheet::{Sheet, B};
 
@@ -46,10 +46,16 @@ pub fn default_leg(sheet: &Sheet, position: usize, tranche: usize, count: usize)
     expected_cash(sheet, position, count, cash)
 }
 
-/// The exact premium leg, over the same power of B as the default leg.
+/// The exact premium leg, over the same power of B as the default leg. A
+/// default brings what was earned up to it, beside the premium of its step.
 pub fn premium_leg(sheet: &Sheet, position: usize, tranche: usize, count: usize) -> Natural {
     let cash = |step: usize, before: usize, next: Move| {
-        premium_payment_over_b(sheet, tranche, step, count_after(before, &[next]))
+        let earned = match next {
+            Move::Stay => 0,
+            Move::Default => elapsed_payment_over_b(sheet, tranche, step, before),
+        };
+        let after = count_after(before, &[next]);
+        premium_payment_over_b(sheet, tranche, step, after) + earned
     };
     expected_cash(sheet, position, count, cash)
 }
@@ -57,6 +63,17 @@ pub fn premium_leg(sheet: &Sheet, position: usize, tranche: usize, count: usize)
 /// The denominator of an exact leg at `position`: B^(2h + 1).
 pub fn leg_denominator(sheet: &Sheet, position: usize) -> Natural {
     Natural::power_of_b(2 * (sheet.steps - position) + 1)
+}
+
+/// Twice the distances that legs walked from the end to `position` may be off:
+/// 2h for D and 2h + q + f for A, with h steps, q premium dates and f fractions
+/// other than 0 on the way.
+pub fn doubled_distances(sheet: &Sheet, position: usize) -> [usize; 2] {
+    let walked = position + 1..=sheet.steps;
+    let dates = walked.clone().filter(|&step| sheet.is_premium_date(step));
+    let fractions = walked.filter(|&step| sheet.elapsed(step) != 0);
+    let steps = 2 * (sheet.steps - position);
+    [steps, steps + dates.count() + fractions.count()]
 }
 
 /// The exact chances of 0 to n defaults after `steps` steps from none, as

@@ -145,8 +145,8 @@ fn roll_back(
     let mut paid = [0; ROOM];
     let mut left = [0; ROOM];
     fill_payments(sheet, losses, &mut paid);
-    let accruals = &sheet.accruals[position - steps..position];
-    if any(accruals, |accrual| accrual != 0) {
+    let due = |list: &[u64]| any(&list[position - steps..position], |part| part != 0);
+    if due(&sheet.accruals) || due(&sheet.elapsed) {
         fill_outstanding(sheet, losses, &mut left);
     }
     let counts = sheet.names + 1;
@@ -164,6 +164,11 @@ fn roll_back(
             for (entry, &left) in premium_row.iter_mut().zip(&left) {
                 *entry += half(accrual * left);
             }
+        }
+        let elapsed = sheet.elapsed[i];
+        if elapsed != 0 {
+            roll_premiums_earned(premium_row, hazards, discount, elapsed, &left);
+            continue;
         }
         for row in premium_row.chunks_exact_mut(counts) {
             roll_premiums(row, hazards, discount);
@@ -197,6 +202,32 @@ fn roll_premiums(row: &mut [u64], hazards: &[u64], discount: u64) {
     row[names] = half(discount * here);
 }
 
+/// The same for all tranches, where a default brings what was earned up to it,
+/// on what it takes off the outstanding notional. It stands apart, so that the
+/// loop of a step without it stays as quick as it was.
+#[inline(never)]
+fn roll_premiums_earned(
+    premium_row: &mut [u64],
+    hazards: &[u64],
+    discount: u64,
+    elapsed: u64,
+    left: &[u64; ROOM],
+) {
+    let names = hazards.len();
+    let rows = premium_row.chunks_exact_mut(names + 1);
+    for (row, left) in rows.zip(left.chunks_exact(names + 1)) {
+        let mut here = row[0];
+        for k in 0..names {
+            let next = row[k + 1];
+            let earned = half(elapsed * (left[k] - left[k + 1]));
+            let expected = half(hazards[k] * (next + earned) + (B - hazards[k]) * here);
+            row[k] = half(discount * expected);
+            here = next;
+        }
+        row[names] = half(discount * here);
+    }
+}
+
 /// M(k) of every tranche, and of the index last: one division a count.
 fn fill_losses(sheet: &Sheet, losses: &mut [u64]) {
     let names = sheet.names as u64;
@@ -224,7 +255,7 @@ fn fill_payments(sheet: &Sheet, losses: &[u64; ROOM], paid: &mut [u64; ROOM]) {
     }
 }
 
-/// What is outstanding, for a walk that meets a premium date.
+/// What is outstanding, for a walk that meets a premium date or a fraction.
 fn fill_outstanding(sheet: &Sheet, losses: &[u64; ROOM], left: &mut [u64; ROOM]) {
     let counts = sheet.names + 1;
     let pool_losses = &losses[sheet.tranches * counts..][..counts];
@@ -281,8 +312,14 @@ fn is_over_ceiling(
             return true;
         }
     }
-    let most = sheet.accruals[position..].iter().sum();
-    above(premium_row, most)
+    let accruals: u64 = sheet.accruals[position..].iter().sum();
+    let lowest = accruals + 2 * (sheet.steps - position) as u64;
+    // Entries between the lowest ceiling and their own are rare.
+    above(premium_row, lowest) && {
+        let over = |(k, &a): (usize, &u64)| a > lowest + (sheet.names - k) as u64;
+        let mut rows = premium_row.chunks_exact(counts);
+        rows.any(|row| row.iter().enumerate().any(over))
+    }
 }
 
 /// Checks 1 to 10, for the calls that are lent both rows.
@@ -305,7 +342,8 @@ fn check_pool(sheet: &Sheet) -> Result<(), Refusal> {
     refuse_if(fault, Refusal::Pool)
 }
 
-/// Checks 2 to 10, with 25. The accruals are summed after each was found small.
+/// Checks 2 to 10, with 25 and 21. The accruals are summed after each was found
+/// small.
 fn check_after_pool(sheet: &Sheet, register: &[u8], row_fault: bool) -> Result<(), Refusal> {
     let length_fault = sheet::length_fault(sheet) || register::length_fault(register) || row_fault;
     refuse_if(length_fault, Refusal::Length)?;
@@ -320,6 +358,7 @@ fn check_after_pool(sheet: &Sheet, register: &[u8], row_fault: bool) -> Result<(
     let discount_fault = any(&sheet.discounts, |discount| discount == 0 || discount > B);
     refuse_if(discount_fault, Refusal::Discount)?;
     refuse_if(accrual_fault(&sheet.accruals), Refusal::Accrual)?;
+    refuse_if(elapsed_fault(sheet), Refusal::Elapsed)?;
     refuse_if(above(&sheet.coupons, MAX_COUPON), Refusal::Coupon)?;
     register::check_live(register, sheet.number)
 }
@@ -337,4 +376,22 @@ fn any(list: &[u64], test: impl Fn(u64) -> bool) -> bool {
 
 fn accrual_fault(accruals: &[u64]) -> bool {
     above(accruals, B) || accruals.iter().sum::<u64>() > 10 * B || accruals.last() == Some(&0)
+}
+
+/// Zeros are within any limit, and many of them are found at once.
+fn elapsed_fault(sheet: &Sheet) -> bool {
+    let bits = sheet.elapsed.iter().fold(0, |bits, elapsed| bits | elapsed);
+    if bits == 0 {
+        return false;
+    }
+    let mut most = 0;
+    for (&elapsed, &accrual) in sheet.elapsed.iter().zip(&sheet.accruals).rev() {
+        if accrual != 0 {
+            most = accrual;
+        }
+        if elapsed > most {
+            return true;
+        }
+    }
+    false
 }

@@ -15,8 +15,8 @@
 //! - [`natural`]: whole numbers of any size
 //! - [`exact`]: unrounded values by brute force over lists of moves
 //! - [`trials`]: the trial entries that the engine's program runs
-//! - [`worked`]: small sheets: the one whose figures document 01 prints, and
-//!   one of two periods
+//! - [`worked`]: small sheets: the one whose figures document 01 prints, the
+//!   same with premium up to a default, and one of two periods
 //! - [`random`]: random sheets by seed
 //! - [`decks`]: random decks by seed
 //! - [`fast`]: the calls once more, written for speed, for the benchmark

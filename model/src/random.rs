@@ -95,6 +95,26 @@ impl Random {
         accruals
     }
 
+    /// All zero, all at their limit, or each anywhere from zero to its limit:
+    /// the accrual of the next premium date.
+    fn elapsed(&mut self, accruals: &[u64]) -> Vec<u64> {
+        let kind = self.between(0, 3);
+        let mut most = 0;
+        let mut backwards = Vec::new();
+        for &accrual in accruals.iter().rev() {
+            if accrual != 0 {
+                most = accrual;
+            }
+            backwards.push(match kind {
+                0 => 0,
+                1 => most,
+                _ => self.with_edges(0, most),
+            });
+        }
+        backwards.reverse();
+        backwards
+    }
+
     /// A sheet small enough for brute force over every list of moves.
     pub fn small_sheet(&mut self) -> Sheet {
         let (names, steps, tranches) = self.small_shape();
@@ -127,6 +147,7 @@ impl Random {
     }
 
     fn sheet_of(&mut self, names: usize, steps: usize, tranches: usize, starts: Vec<u64>) -> Sheet {
+        let accruals = self.accruals(steps);
         Sheet {
             number: self.between(0, 255) as u8,
             names,
@@ -137,7 +158,8 @@ impl Random {
             hazards: self.list(names * starts.len(), 0, B),
             starts,
             discounts: self.list(steps, 1, B),
-            accruals: self.accruals(steps),
+            elapsed: self.elapsed(&accruals),
+            accruals,
             coupons: self.list(tranches + 1, 0, 10_000_000),
         }
     }

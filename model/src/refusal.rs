@@ -26,13 +26,15 @@ pub enum Refusal {
     Unknown = 18,
     CutShort = 19,
     TooMany = 20,
+    /// Checked after 7.
+    Elapsed = 21,
     /// Checked before 5.
     Periods = 25,
 }
 
 impl Refusal {
-    /// In the order of their numbers: 1 to 20, then 25.
-    pub const ALL: [Refusal; 21] = [
+    /// In the order of their numbers: 1 to 21, then 25.
+    pub const ALL: [Refusal; 22] = [
         Refusal::Pool,
         Refusal::Length,
         Refusal::Recovery,
@@ -53,6 +55,7 @@ impl Refusal {
         Refusal::Unknown,
         Refusal::CutShort,
         Refusal::TooMany,
+        Refusal::Elapsed,
         Refusal::Periods,
     ];
 
@@ -90,6 +93,7 @@ impl Refusal {
             Refusal::Unknown => "unknown",
             Refusal::CutShort => "cut short",
             Refusal::TooMany => "too many",
+            Refusal::Elapsed => "elapsed",
             Refusal::Periods => "periods",
         }
     }

@@ -41,6 +41,9 @@ pub struct Sheet {
     pub discounts: Vec<u64>,
     /// a(1) to a(m), so a(i) is at place i - 1.
     pub accruals: Vec<u64>,
+    /// e(1) to e(m), so e(i) is at place i - 1: what part of a year a name has
+    /// earned its premium when it defaults into step i.
+    pub elapsed: Vec<u64>,
     /// One for each tranche, then the one of the index.
     pub coupons: Vec<u64>,
 }
@@ -84,9 +87,21 @@ impl Sheet {
         u128::from(self.accruals[step - 1])
     }
 
+    /// e(i), for i from 1 to m.
+    pub fn elapsed(&self, step: usize) -> u128 {
+        u128::from(self.elapsed[step - 1])
+    }
+
     /// A step pays premium just when its accrual is not zero.
     pub fn is_premium_date(&self, step: usize) -> bool {
         self.accrual(step) != 0
+    }
+
+    /// The first premium date at or after a step. There is one: the last
+    /// accrual is not zero.
+    pub fn next_premium_date(&self, step: usize) -> usize {
+        let date = (step..=self.steps).find(|&step| self.is_premium_date(step));
+        date.expect("no premium date ahead")
     }
 
     pub fn coupon(&self, tranche: usize) -> u128 {
@@ -94,8 +109,8 @@ impl Sheet {
     }
 }
 
-/// Checks 1 to 8 with 25 before 5, in the order of document 01; the first
-/// fault is named.
+/// Checks 1 to 8 with 25 before 5 and 21 after 7, in the order of document 01;
+/// the first fault is named.
 pub fn check(sheet: &Sheet) -> Result<(), Refusal> {
     check_pool(sheet)?;
     refuse_if(length_fault(sheet), Refusal::Length)?;
@@ -107,8 +122,8 @@ pub fn check_pool(sheet: &Sheet) -> Result<(), Refusal> {
     refuse_if(pool_fault(sheet), Refusal::Pool)
 }
 
-/// Checks 3, 4, 25 and 5 to 8. They stand apart from the others because a
-/// call has more lengths to check than those of the sheet's own lists.
+/// Checks 3, 4, 25, 5 to 7, 21 and 8. They stand apart from the others because
+/// a call has more lengths to check than those of the sheet's own lists.
 pub fn check_figures(sheet: &Sheet) -> Result<(), Refusal> {
     refuse_if(above(sheet.recovery, B), Refusal::Recovery)?;
     refuse_if(attachment_fault(sheet), Refusal::Attachments)?;
@@ -116,6 +131,7 @@ pub fn check_figures(sheet: &Sheet) -> Result<(), Refusal> {
     refuse_if(hazard_fault(sheet), Refusal::Hazard)?;
     refuse_if(discount_fault(sheet), Refusal::Discount)?;
     refuse_if(accrual_fault(sheet), Refusal::Accrual)?;
+    refuse_if(elapsed_fault(sheet), Refusal::Elapsed)?;
     refuse_if(coupon_fault(sheet), Refusal::Coupon)
 }
 
@@ -139,6 +155,7 @@ pub fn length_fault(sheet: &Sheet) -> bool {
         || sheet.hazards.len() != sheet.names * sheet.starts.len()
         || sheet.discounts.len() != sheet.steps
         || sheet.accruals.len() != sheet.steps
+        || sheet.elapsed.len() != sheet.steps
         || sheet.coupons.len() != sheet.tranches + 1
 }
 
@@ -171,6 +188,12 @@ fn accrual_fault(sheet: &Sheet) -> bool {
     let sum: u128 = sheet.accruals.iter().map(|&a| u128::from(a)).sum();
     let last_is_zero = sheet.accruals.last() == Some(&0);
     too_high || sum > MAX_ACCRUAL_SUM || last_is_zero
+}
+
+/// Check 21. Nothing is earned for longer than the next premium date pays for.
+fn elapsed_fault(sheet: &Sheet) -> bool {
+    let most = |step: usize| sheet.accrual(sheet.next_premium_date(step));
+    (1..=sheet.steps).any(|step| sheet.elapsed(step) > most(step))
 }
 
 fn coupon_fault(sheet: &Sheet) -> bool {

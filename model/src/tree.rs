@@ -1,11 +1,11 @@
 //! Values on the recombining tree (document 01, "Walking back", "Hedge
-//! ratio" and "Going forward").
+//! ratio" and "Going forward", and T-01).
 //!
 //! Every function takes a sheet that passed its checks, and a position, a
 //! tranche and a count that lie on the tree; anything else is a mistake of
 //! the caller and panics.
 
-use crate::cash::{default_payment, half, premium_payment, tranche_loss, width};
+use crate::cash::{default_payment, elapsed_payment, half, premium_payment, tranche_loss, width};
 use crate::refusal::Refusal;
 use crate::sheet::{Sheet, B};
 
@@ -115,7 +115,7 @@ fn premium_leg_before(
     };
     let if_stay = with_payment(count);
     let if_default = if count < sheet.names {
-        with_payment(count + 1)
+        with_payment(count + 1) + elapsed_payment(sheet, tranche, step, count)
     } else {
         0 // has no weight: p(n) is 0
     };
@@ -139,19 +139,23 @@ pub fn default_ceiling(sheet: &Sheet, tranche: usize, count: usize) -> u128 {
     width(sheet, tranche) - tranche_loss(sheet, tranche, count)
 }
 
-/// No premium leg is worth more than the accruals still to come.
-pub fn premium_ceiling(sheet: &Sheet, position: usize) -> u128 {
-    (position + 1..=sheet.steps)
-        .map(|step| sheet.accrual(step))
-        .sum()
+/// No premium leg is worth more than the accruals still to come, but for
+/// roundings: a unit for each name that is left and two for each step.
+pub fn premium_ceiling(sheet: &Sheet, position: usize, count: usize) -> u128 {
+    let ahead = position + 1..=sheet.steps;
+    let accruals: u128 = ahead.map(|step| sheet.accrual(step)).sum();
+    let rounded = (sheet.names - count) + 2 * (sheet.steps - position);
+    accruals + rounded as u128
 }
 
 /// The first node, as (tranche, count), with D or A over its ceiling.
 /// Document 01 calls rows that have one "soiled".
 pub fn first_over_ceiling(sheet: &Sheet, rows: &Rows, position: usize) -> Option<(usize, usize)> {
-    let premium_limit = premium_ceiling(sheet, position);
+    let premium_limits: Vec<u128> = (0..=sheet.names)
+        .map(|count| premium_ceiling(sheet, position, count))
+        .collect();
     for tranche in 0..=sheet.index() {
-        for count in 0..=sheet.names {
+        for (count, &premium_limit) in premium_limits.iter().enumerate() {
             let default_limit = default_ceiling(sheet, tranche, count);
             if default_leg(sheet, rows, tranche, count) > default_limit
                 || premium_leg(sheet, rows, tranche, count) > premium_limit

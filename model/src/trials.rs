@@ -62,6 +62,7 @@ numbers! {
         hazards_lent,
         discounts_lent,
         accruals_lent,
+        elapsed_lent,
         coupons_lent,
         register_lent,
         defaults_lent,
@@ -92,6 +93,12 @@ numbers! {
         accrual,
         third_accrual,
         other_accruals,
+        /// 1: the elapsed fractions of the first three steps are those below.
+        /// Otherwise they are 0, as all others are.
+        has_elapsed,
+        elapsed,
+        second_elapsed,
+        third_elapsed,
         /// The first and third coupon, and all others.
         coupon,
         third_coupon,
@@ -138,6 +145,7 @@ pub const WALKED: Trial = Trial {
     hazards_lent: 0,
     discounts_lent: 0,
     accruals_lent: 0,
+    elapsed_lent: 0,
     coupons_lent: 0,
     register_lent: 256,
     defaults_lent: 0,
@@ -159,6 +167,10 @@ pub const WALKED: Trial = Trial {
     accrual: 250_000_000,
     third_accrual: B,
     other_accruals: 950_000_000,
+    has_elapsed: 0,
+    elapsed: 200_000_000,
+    second_elapsed: 600_000_000,
+    third_elapsed: 350_000_000,
     coupon: 1_000_000,
     third_coupon: 500_000,
     other_coupons: 700_000,
@@ -214,6 +226,21 @@ const MANY_STEPS: Trial = Trial {
     ..WALKED
 };
 
+/// The sheet with elapsed fractions.
+const EARNED: Trial = Trial {
+    has_elapsed: 1,
+    ..WALKED
+};
+
+/// One name that defaults in the next step: the index has no premium but what
+/// was earned up to that.
+const ONE_DEFAULT: Trial = Trial {
+    names: 1,
+    hazard: B,
+    tranche: 2,
+    ..EARNED
+};
+
 /// A number of a trial, and the values it takes in turn.
 pub struct Edge {
     pub number: &'static str,
@@ -249,6 +276,7 @@ pub fn edges() -> Vec<Edge> {
         periods(),
         figures(),
         premiums(),
+        elapsed(),
         bytes(),
         walks(),
         default_ceilings(),
@@ -394,28 +422,52 @@ fn premiums() -> Vec<Edge> {
     ]
 }
 
+/// Elapsed fractions: 2, values, 21, and 7 and 8 beside it.
+fn elapsed() -> Vec<Edge> {
+    let index = Trial {
+        tranche: 2,
+        ..EARNED
+    };
+    // Back by 1 leads to the node before step 3.
+    let third = Trial {
+        back: 1,
+        ..ONE_DEFAULT
+    };
+    let second = Trial {
+        back: 2,
+        ..ONE_DEFAULT
+    };
+    let dear = Trial {
+        coupon: 10_000_001,
+        ..EARNED
+    };
+    vec![
+        edge("elapsed_lent", 2..=4, EARNED),
+        edge("tranche", 0..=3, EARNED),
+        edge("back", 1..=4, ONE_DEFAULT),
+        edge("elapsed", 250_000_000..=250_000_001, ONE_DEFAULT),
+        // Step 2 is no premium date, the next one is step 3.
+        edge("second_elapsed", B..=B + 1, second),
+        edge("third_elapsed", B..=B + 1, third),
+        edge("third_accrual", 599_999_999..=600_000_000, index),
+        edge("third_accrual", 0..=1, EARNED),
+        edge("elapsed", 250_000_000..=250_000_001, dear),
+    ]
+}
+
 /// 9 and 10.
 fn bytes() -> Vec<Edge> {
     let byte = |values| edge("byte", values, WALKED);
     vec![byte(0x00..=0x00), byte(0xA4..=0xA6), byte(0xFE..=0xFF)]
 }
 
-/// 11.
+/// 11, and 12 beside it: at the last step nearly no premium is left, so these
+/// rows are over their ceilings there.
 fn walks() -> Vec<Edge> {
-    let end = Trial {
-        back: 1,
-        own_premium: 0,
-        own_next_premium: 0,
-        other_premiums: 0,
-        index_premium: 0,
-        index_next_premium: 0,
-        last_premium: 0,
-        ..MADE_UP
-    };
     vec![
         edge("open", 0..=1, MADE_UP),
         edge("number", 6..=8, MADE_UP),
-        edge("position", 3..=4, end),
+        edge("position", 2..=4, MADE_UP),
     ]
 }
 
@@ -442,7 +494,8 @@ fn default_ceilings() -> Vec<Edge> {
     ]
 }
 
-/// 12 for A: the accruals to come.
+/// 12 for A: the accruals to come, a unit for each name that is left, and two
+/// for each step.
 fn premium_ceilings() -> Vec<Edge> {
     let root = Trial {
         position: 0,
@@ -450,12 +503,12 @@ fn premium_ceilings() -> Vec<Edge> {
     };
     let [next, index, index_next, last] = made_up_nodes();
     vec![
-        edge("own_premium", B..=B + 1, MADE_UP),
-        edge("own_premium", 1_250_000_000..=1_250_000_001, root),
-        edge("own_next_premium", B..=B + 1, next),
-        edge("index_premium", B..=B + 1, index),
-        edge("index_next_premium", B..=B + 1, index_next),
-        edge("last_premium", B..=B + 1, last),
+        edge("own_premium", B + 5..=B + 6, MADE_UP),
+        edge("own_premium", 1_250_000_009..=1_250_000_010, root),
+        edge("own_next_premium", B + 4..=B + 5, next),
+        edge("index_premium", B + 5..=B + 6, index),
+        edge("index_next_premium", B + 4..=B + 5, index_next),
+        edge("last_premium", B + 2..=B + 3, last),
     ]
 }
 
@@ -625,6 +678,7 @@ fn sheet(trial: &Trial) -> Sheet {
             [Some(trial.accrual), Some(0), Some(trial.third_accrual)],
             length(trial.accruals_lent, steps),
         ),
+        elapsed: elapsed_fractions(trial),
         coupons: list(
             trial.other_coupons,
             [Some(trial.coupon), None, Some(trial.third_coupon)],
@@ -649,6 +703,13 @@ fn hazards(trial: &Trial) -> Vec<u64> {
     hazards.extend((0..ROOM as u64).map(|place| trial.later_hazards + 1_000_000 * place));
     hazards.truncate(length(trial.hazards_lent, names * periods));
     hazards
+}
+
+fn elapsed_fractions(trial: &Trial) -> Vec<u64> {
+    let told = [trial.elapsed, trial.second_elapsed, trial.third_elapsed];
+    let first = told.map(|fraction| Some(fraction).filter(|_| trial.has_elapsed == 1));
+    let length = length(trial.elapsed_lent, trial.steps as usize);
+    list(0, first, length)
 }
 
 /// One figure throughout, but for some of the first three places.

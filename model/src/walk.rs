@@ -4,8 +4,8 @@
 //! Nothing a caller brings is trusted: sheet, register, rows and walk may
 //! hold anything. Each call makes all its checks before it writes, so that
 //! a refusal leaves everything as it was. Checks have the numbers of their
-//! refusals; 25 is among those of the sheet, between 4 and 5. The figures come
-//! from [`tree`].
+//! refusals; 25 and 21 are among those of the sheet, 25 between 4 and 5, 21
+//! between 7 and 8. The figures come from [`tree`].
 //!
 //! [`tree`]: crate::tree
 

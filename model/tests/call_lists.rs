@@ -297,7 +297,7 @@ impl<'a> Run<'a> {
         }
     }
 
-    /// The walk at m - h, and every leg within its distance: 2h and 2h + q
+    /// The walk at m - h, and every leg within its distance: 2h and 2h + q + f
     /// when doubled.
     fn assert_found(&self, tally: &mut Tally) {
         let Some((subject, steps)) = self.opened else {
@@ -316,7 +316,7 @@ impl<'a> Run<'a> {
             return;
         }
         let denominator = exact::leg_denominator(sheet, position);
-        let limits = [2 * steps, 2 * steps + premium_dates(sheet, steps)];
+        let limits = exact::doubled_distances(sheet, position);
         for (here, (default, premium)) in exact[position].iter().enumerate() {
             let legs = [self.rows.default_row[here], self.rows.premium_row[here]];
             for ((leg, exact), limit) in legs.into_iter().zip([default, premium]).zip(limits) {
@@ -339,12 +339,6 @@ fn kind(call: Call) -> usize {
         Call::Back(..) => 3,
         Call::Value(..) => 4,
     }
-}
-
-/// q: premium dates among the last `steps` steps.
-fn premium_dates(sheet: &Sheet, steps: usize) -> usize {
-    let passed = &sheet.accruals[sheet.steps - steps..];
-    passed.iter().filter(|&&accrual| accrual != 0).count()
 }
 
 /// Two sheets with numbers of their own, often alike in shape.
@@ -437,8 +431,8 @@ fn walk_the_span(span: &Subject, steps: usize, random: &mut Random, tally: &mut 
 /// (r + 1) distances. Says how many sums differ at all.
 fn compare_with_span(sheet: &Sheet, rows: &Pair, span: &Subject, whole: &Pair, h: usize) -> usize {
     let parts = sheet.tranches as u64 + 1;
-    let default_limit = parts * 2 * h as u64;
-    let premium_limit = parts * (2 * h + premium_dates(sheet, h)) as u64;
+    let once = exact::doubled_distances(sheet, sheet.steps - h);
+    let [default_limit, premium_limit] = once.map(|limit| parts * limit as u64);
     let mut differ = 0;
     for count in 0..=sheet.names {
         let sum = |row: &[u64]| -> u64 {

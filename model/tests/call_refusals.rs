@@ -1,5 +1,5 @@
-//! Refusals 1 to 16 and 25 of the calls that bring a sheet: each at both sides of
-//! its limit, their order, and that a refused call leaves all as it was.
+//! Refusals 1 to 16, 21 and 25 of the calls that bring a sheet: each at both
+//! sides of its limit, their order, and that a refused call leaves all as it was.
 
 mod common;
 
@@ -156,7 +156,7 @@ fn every_entry_has_its_ceiling_at_every_position() {
                 for count in 0..=sheet.names {
                     let here = place(&sheet, tranche, count);
                     desk.default_row[here] = default_ceiling(&sheet, tranche, count) as u64;
-                    desk.premium_row[here] = premium_ceiling(&sheet, position) as u64;
+                    desk.premium_row[here] = premium_ceiling(&sheet, position, count) as u64;
                 }
             }
             for call in [Back, Value] {

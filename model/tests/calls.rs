@@ -6,7 +6,7 @@ mod common;
 use common::desk::Call::{self, Back, Forward, Open, Ratio, Value};
 use common::desk::Desk;
 use common::{
-    assert_every_break_is_met, break_periods, plain_sheet, set_starts, Break, Met, Random, B,
+    assert_every_break_is_met, break_lists, plain_sheet, set_starts, Break, Met, Random, B,
 };
 use lavroudem_model::deck::CALLS;
 use lavroudem_model::refusal::Refusal;
@@ -59,13 +59,13 @@ fn any_desk(random: &mut Random) -> Desk {
     desk.forward_by = random.between(0, sheet.steps as u64) as usize;
     desk.tranche = random.between(0, sheet.index() as u64) as usize;
     desk.count = random.between(0, sheet.names as u64) as usize;
-    let premium_limit = premium_ceiling(&sheet, desk.walk.position) as u64;
     for tranche in 0..=sheet.index() {
         for count in 0..=sheet.names {
             let here = place(&sheet, tranche, count);
             let limit = default_ceiling(&sheet, tranche, count) as u64;
             desk.default_row[here] = random.between(0, limit);
-            desk.premium_row[here] = random.between(0, premium_limit);
+            let limit = premium_ceiling(&sheet, desk.walk.position, count) as u64;
+            desk.premium_row[here] = random.between(0, limit);
         }
     }
     desk
@@ -224,10 +224,10 @@ fn spoil_list(random: &mut Random, list: &mut Vec<u64>) {
 }
 
 /// Puts something else in the place of one thing of the desk. Hands back how
-/// it broke the periods, if it did that.
+/// it broke periods or fractions, if it did that.
 fn spoil(random: &mut Random, desk: &mut Desk) -> Option<Break> {
     let figure = any_figure(random);
-    match random.between(0, 21) {
+    match random.between(0, 23) {
         0 => desk.sheet.names = figure as usize,
         1 => desk.sheet.steps = figure as usize,
         2 => desk.sheet.tranches = figure as usize,
@@ -248,7 +248,8 @@ fn spoil(random: &mut Random, desk: &mut Desk) -> Option<Break> {
         17 => desk.back_by = figure as usize,
         18 => desk.tranche = figure as usize,
         19 => spoil_list(random, &mut desk.sheet.starts),
-        20 => return Some(break_periods(random, &mut desk.sheet)),
+        20 => spoil_list(random, &mut desk.sheet.elapsed),
+        21 | 22 => return Some(break_lists(random, &mut desk.sheet)),
         _ => {
             desk.count = figure as usize;
             desk.forward_by = figure as usize;
@@ -295,6 +296,12 @@ fn calls_on_anything_answer_or_refuse_without_a_trace() {
         assert!(times > 50, "refusal {number}: {times}");
     }
     assert!(refused[15] > 0);
-    assert!(refused[25] > 50, "refusal 25: {}", refused[25]);
+    for number in [21, 25] {
+        assert!(
+            refused[number] > 50,
+            "refusal {number}: {}",
+            refused[number]
+        );
+    }
     assert_every_break_is_met(&met);
 }

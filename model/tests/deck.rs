@@ -6,8 +6,8 @@ mod common;
 use common::desk::{Call, Desk};
 use common::{plain_sheet, Random, B};
 use lavroudem_model::commands::{
-    decode, encode, BACK, COUPON, CUT, DELTA, FORWARD, HAZARD, ISSUE, OPEN, POOL, STEP, VALUE,
-    WITHDRAW,
+    decode, encode, BACK, COUPON, CUT, DELTA, ELAPSED, FORWARD, HAZARD, ISSUE, OPEN, POOL, STEP,
+    VALUE, WITHDRAW,
 };
 use lavroudem_model::deck::{listing, CALLS};
 use lavroudem_model::decks;
@@ -40,6 +40,7 @@ commands! {
     value VALUE(tranche, count);
     delta DELTA(tranche, count);
     forward FORWARD(steps, count);
+    elapsed ELAPSED(fraction);
 }
 
 /// An operand that its width cannot hold is a mistake of the test.
@@ -59,8 +60,12 @@ fn pool_of(sheet: &Sheet) -> Vec<u8> {
     )
 }
 
-/// The sheet's lists, each as its commands.
-fn lists_of(sheet: &Sheet) -> [Vec<Vec<u8>>; 4] {
+/// The sheet's lists, each as its commands; none for fractions that are zero.
+fn lists_of(sheet: &Sheet) -> [Vec<Vec<u8>>; 5] {
+    let fractions = match sheet.elapsed.iter().any(|&fraction| fraction != 0) {
+        true => &sheet.elapsed[..],
+        false => &[],
+    };
     let each = |list: &[u64], command: fn(u64) -> Vec<u8>| -> Vec<Vec<u8>> {
         list.iter().map(|&figure| command(figure)).collect()
     };
@@ -70,6 +75,7 @@ fn lists_of(sheet: &Sheet) -> [Vec<Vec<u8>>; 4] {
         each(&sheet.hazards, hazard),
         steps.map(|(&v, &a)| step(v, a)).collect(),
         each(&sheet.coupons, coupon),
+        each(fractions, elapsed),
     ]
 }
 
@@ -166,7 +172,7 @@ fn worked_deck_is_these_bytes() {
 
 /// Each command with operands that fill their widths, and its bytes by hand,
 /// the low byte of an operand first.
-const BY_HAND: [(&str, &[u64], &[u8]); 12] = [
+const BY_HAND: [(&str, &[u64], &[u8]); 13] = [
     (
         "pool",
         &[0xF1, 0x0102, 0xF2, 0x0304_0506, 0xF3],
@@ -187,6 +193,7 @@ const BY_HAND: [(&str, &[u64], &[u8]); 12] = [
     ("value", &[0xF1, 0xF2], &[0x0A, 0xF1, 0xF2]),
     ("delta", &[0xF3, 0xF4], &[0x0B, 0xF3, 0xF4]),
     ("forward", &[0xF102, 0xF3], &[0x0C, 0x02, 0xF1, 0xF3]),
+    ("elapsed", &[0xE102_0304], &[0x0D, 0x04, 0x03, 0x02, 0xE1]),
 ];
 
 /// One table encodes and decodes, so that neither may be judged by the other.
@@ -244,7 +251,7 @@ fn run_program(deck: &[u8]) -> Vec<u8> {
 
 #[test]
 fn program_prints_the_listing_of_its_input() {
-    for deck in [vec![], worked_deck(), vec![0x0D], vec![0x08; 70_000]] {
+    for deck in [vec![], worked_deck(), vec![0x0E], vec![0x08; 70_000]] {
         assert_eq!(run_program(&deck), listing(&deck));
     }
 }
@@ -266,12 +273,13 @@ fn sheet_commands_print_nothing() {
         hazard(most),
         step(most, most),
         coupon(most),
+        elapsed(most),
     ];
     assert_eq!(printed(&commands.concat()), "");
 }
 
 /// Every command with its width in bytes, operands included.
-fn one_of_each() -> [(Vec<u8>, usize); 12] {
+fn one_of_each() -> [(Vec<u8>, usize); 13] {
     [
         (pool(1, 2, 3, 4, 5), 10),
         (cut(1), 5),
@@ -285,20 +293,21 @@ fn one_of_each() -> [(Vec<u8>, usize); 12] {
         (value(1, 2), 3),
         (delta(1, 2), 3),
         (forward(1, 2), 4),
+        (elapsed(1), 5),
     ]
 }
 
 #[test]
 fn every_other_byte_is_unknown() {
     for byte in 0..=255 {
-        let known = (0x01..=0x0C).contains(&byte);
+        let known = (0x01..=0x0D).contains(&byte);
         for rest in [0, 20] {
             let deck = [vec![byte], vec![0; rest]].concat();
             assert_eq!(printed(&deck).starts_with("deck 18 0\n"), !known);
         }
     }
     assert_eq!(printed(&[0x00]), "deck 18 0\n");
-    assert_eq!(printed(&[0x0D]), "deck 18 0\n");
+    assert_eq!(printed(&[0x0E]), "deck 18 0\n");
     assert_eq!(printed(&[0xFF; 9]), "deck 18 0\n");
 }
 
@@ -345,6 +354,7 @@ fn each_list_has_a_most() {
         (hazard(1), 125),
         (step(1, 1), 3_650),
         (coupon(1), 9),
+        (elapsed(1), 3_650),
     ];
     for (command, most) in &lists {
         let full = command.repeat(*most);
@@ -388,7 +398,7 @@ fn oversized_deck_prints_one_line_only() {
 #[test]
 fn deck_refusals_come_in_order() {
     // Unknown: there is no telling whether it is cut short.
-    assert_eq!(printed(&[0x08, 0x0D]), "open 1\ndeck 18 1\n");
+    assert_eq!(printed(&[0x08, 0x0E]), "open 1\ndeck 18 1\n");
     // One too many, but cut short.
     let first = pool(2, 2, 1, 0, 7);
     for length in 1..first.len() {
@@ -400,6 +410,7 @@ fn deck_refusals_come_in_order() {
         (hazard(1), 125),
         (step(1, 1), 3_650),
         (coupon(1), 9),
+        (elapsed(1), 3_650),
     ];
     for (command, most) in lists {
         let full = command.repeat(most);
@@ -408,10 +419,10 @@ fn deck_refusals_come_in_order() {
             assert_eq!(printed(&deck), format!("deck 19 {}\n", full.len()));
         }
         // The first command at fault is named, whatever comes later.
-        let deck = [&full[..], &command[..], &[0x0D]].concat();
+        let deck = [&full[..], &command[..], &[0x0E]].concat();
         assert_eq!(printed(&deck), format!("deck 20 {}\n", full.len()));
     }
-    assert_eq!(printed(&[0x0D, 0x01]), "deck 18 0\n");
+    assert_eq!(printed(&[0x0E, 0x01]), "deck 18 0\n");
 }
 
 #[test]
@@ -507,7 +518,7 @@ fn sheet_commands_may_come_in_any_order() {
 #[test]
 fn sheet_commands_may_follow_calls() {
     let sheet = worked::sheet();
-    let [cuts, hazards, steps, coupons] = lists_of(&sheet).map(|list| list.concat());
+    let [cuts, hazards, steps, coupons, _] = lists_of(&sheet).map(|list| list.concat());
     let lines = [
         (issue(7), "issue 0"),
         (open(), "open 1"), // no pool yet
@@ -644,7 +655,7 @@ fn calls_print_their_refusals() {
 #[test]
 fn faults_of_the_sheet_print_their_refusals() {
     type Fault = fn(&mut Sheet);
-    let faults: [(Refusal, Fault); 10] = [
+    let faults: [(Refusal, Fault); 13] = [
         (Refusal::Recovery, |s| s.recovery = B + 1),
         (Refusal::Attachments, |s| s.attachments[1] = 0),
         (Refusal::Attachments, |s| s.attachments[1] = B + 1),
@@ -653,6 +664,9 @@ fn faults_of_the_sheet_print_their_refusals() {
         (Refusal::Discount, |s| s.discounts[0] = B + 1),
         (Refusal::Accrual, |s| s.accruals[1] = 0),
         (Refusal::Accrual, |s| s.accruals[0] = B + 1),
+        (Refusal::Elapsed, |s| s.elapsed[0] = B + 1),
+        (Refusal::Elapsed, |s| s.elapsed[1] = B + 1),
+        (Refusal::Elapsed, |s| s.elapsed[1] = u64::from(u32::MAX)),
         (Refusal::Coupon, |s| s.coupons[0] = 10_000_001),
         (Refusal::Coupon, |s| s.coupons[1] = u64::from(u32::MAX)),
     ];
@@ -694,8 +708,143 @@ fn no_deck_meets_the_refusal_of_periods() {
             refused[number] += 1;
         }
     }
-    assert!(refused[4] > 100 && refused[5] > 100);
-    assert_eq!(refused[21..], [0; 5]);
+    for number in [2, 4, 5, 21] {
+        assert!(refused[number] > 100, "refusal {number}");
+    }
+    assert_eq!(refused[22..], [0; 4]);
+}
+
+/// What both values at the root print, for the worked sheet's number.
+fn assert_root(start: &[u8], tranche: &str, index: &str) {
+    let lines = [
+        (issue(7), "issue 0"),
+        (open(), "open 0"),
+        (back(2), "back 0 0"),
+        (value(0, 0), tranche),
+        (value(1, 0), index),
+    ];
+    assert_lines(start, &lines);
+}
+
+/// m zeros, or none, print the old listing; other fractions raise the premium.
+#[test]
+fn a_deck_without_fractions_has_as_many_zeros() {
+    let old = [
+        "value 0 54300000 218700000 324300000000000",
+        "value 0 59700000 805500000 194250000000000",
+    ];
+    let none = sheet_deck(&worked::sheet());
+    assert_root(&none, old[0], old[1]);
+    let zeros = [&none[..], &elapsed(0).repeat(2)].concat();
+    assert_root(&zeros, old[0], old[1]);
+    assert_root(
+        &sheet_deck(&worked::earned()),
+        "value 0 54300000 244425000 298575000000000",
+        "value 0 59700000 855125000 169437500000000",
+    );
+}
+
+/// Whatever their figures: zeros too, and too many of them for the pool.
+#[test]
+fn another_count_of_fractions_is_refused_its_length() {
+    let mut sheet = worked::sheet();
+    for steps in [2, 3, 300] {
+        sheet.steps = steps;
+        sheet.discounts = vec![B; steps];
+        sheet.accruals = vec![1; steps];
+        let start = [sheet_deck(&sheet), issue(7)].concat();
+        let accepted = format!("issue 0\nopen 0\nback 0 {}\n", steps - 1);
+        for count in [0, 1, steps - 1, steps, steps + 1, 2 * steps, 3_650] {
+            for fraction in [0, 1] {
+                let entered = elapsed(fraction).repeat(count);
+                let deck = [start.clone(), entered, open(), back(1)].concat();
+                let right = match count {
+                    0 => accepted.as_str(),
+                    _ if count == steps => accepted.as_str(),
+                    _ => "issue 0\nopen 2\nback 2\n",
+                };
+                assert_eq!(printed(&deck), right, "{count} of {steps}");
+            }
+        }
+    }
+}
+
+/// The steps of a deck's pool and the fractions that it enters, up to where it
+/// stops.
+fn steps_and_fractions(deck: &[u8]) -> (u64, Vec<u64>) {
+    let (mut at, mut steps, mut fractions) = (0, 0, Vec::new());
+    while at < deck.len() {
+        let Ok(read) = decode(&deck[at..]) else { break };
+        match read.command.byte {
+            POOL => steps = read.operands()[1],
+            ELAPSED => fractions.push(read.operands()[0]),
+            _ => {}
+        }
+        at += read.length;
+    }
+    (steps, fractions)
+}
+
+/// None, zeros, others that are accepted, too high ones, another count, and one
+/// more than a deck may have.
+#[test]
+fn random_decks_have_fractions_of_every_kind() {
+    let mut random = Random::new(26);
+    let [mut none, mut zeros, mut others, mut high, mut count, mut most] = [0; 6];
+    for at in 0..4_000 {
+        let deck = match at % 20 {
+            0 => decks::oversized(&mut random),
+            _ => decks::any(&mut random),
+        };
+        let listing = printed(&deck);
+        let (steps, fractions) = steps_and_fractions(&deck);
+        let accepted = listing.contains("value 0 ");
+        let all = fractions.len() as u64 == steps;
+        let zero = fractions.iter().all(|&fraction| fraction == 0);
+        none += usize::from(accepted && fractions.is_empty());
+        zeros += usize::from(accepted && all && zero);
+        others += usize::from(accepted && all && !zero);
+        high += usize::from(listing.contains("open 21\n"));
+        let other = !fractions.is_empty() && !all;
+        count += usize::from(other && listing.contains("open 2\n"));
+        most += usize::from(fractions.len() > 3_650 && listing.contains("deck 20 "));
+    }
+    let kinds = [none, zeros, others, high, count, most];
+    assert!(kinds.iter().all(|&kind| kind >= 5), "{kinds:?}");
+}
+
+/// Before the pool, among the lists, or after an open: calls see the fractions
+/// that stand there when they come. While there are too few, none is accepted.
+#[test]
+fn fractions_may_follow_calls() {
+    let start = sheet_deck(&worked::sheet());
+    let lines = [
+        (issue(7), "issue 0"),
+        (open(), "open 0"),
+        (back(1), "back 0 1"),
+        (value(0, 0), "value 0 27000000 243000000 27000000000000"),
+        (elapsed(250_000_000), ""),
+        (value(0, 0), "value 2"),
+        (back(1), "back 2"),
+        (open(), "open 2"),
+        (elapsed(750_000_000), ""),
+        // The walk goes on from where it stood: 0.1 of 75000000 more.
+        (value(0, 0), "value 0 27000000 243000000 27000000000000"),
+        (back(1), "back 0 0"),
+        (value(0, 0), "value 0 54300000 226200000 316800000000000"),
+        (open(), "open 0"),
+        (back(2), "back 0 0"),
+        (value(0, 0), "value 0 54300000 244425000 298575000000000"),
+        (elapsed(0), ""), // one too many, for good
+        (value(0, 0), "value 2"),
+        (forward(1, 0), "forward 2"),
+    ];
+    assert_lines(&start, &lines);
+    let before = [elapsed(250_000_000), elapsed(750_000_000), start].concat();
+    let root = [open(), back(2), value(0, 0)].concat();
+    let listing = printed(&[before, issue(7), root].concat());
+    let right = "value 0 54300000 244425000 298575000000000\n";
+    assert!(listing.ends_with(right));
 }
 
 /// One name that defaults in each step with an even chance. The index leg
@@ -841,7 +990,8 @@ fn assert_well_formed(listing: &str) {
         } else {
             assert_eq!(figures.len(), 1);
             // The program's own rows are never soiled.
-            assert!((1..=17).contains(&figures[0]) && figures[0] != 12);
+            let of_a_call = (1..=17).contains(&figures[0]) || figures[0] == 21;
+            assert!(of_a_call && figures[0] != 12);
         }
     }
 }
@@ -857,7 +1007,7 @@ fn random_bytes_are_always_listed() {
         let mut deck = Vec::new();
         for _ in 0..length {
             let most = if random.between(0, 9) < share {
-                13
+                14
             } else {
                 255
             };
@@ -887,7 +1037,7 @@ fn spoilt_decks_are_always_listed() {
             match random.between(0, 3) {
                 0 => drop(deck.drain(place..=place)),
                 1 => deck.insert(place, random.between(0, 255) as u8),
-                2 => deck[place] = random.between(0, 13) as u8,
+                2 => deck[place] = random.between(0, 14) as u8,
                 _ => deck[place] = random.between(0, 255) as u8,
             }
         }

@@ -42,7 +42,7 @@ fn random_decks() {
         same(&decks::any(&mut random), &mut out, &mut tally);
     }
     for word in ["open", "back", "value", "delta", "forward"] {
-        for number in 0..=10 {
+        for number in (0..=10).chain([21]) {
             let entry = (word.to_string(), number.to_string());
             assert!(tally.contains_key(&entry), "no {word} {number}");
         }

@@ -8,7 +8,7 @@ mod common;
 use common::desk::Call::{self, Back, Forward, Issue, Open, Ratio, Value, Withdraw};
 use common::desk::Desk;
 use common::edges::ALL;
-use common::{assert_every_break_is_met, break_periods, Break, Met, Random, B};
+use common::{assert_every_break_is_met, break_lists, Break, Met, Random, B};
 use lavroudem::OpenWalk;
 use lavroudem_model::cash::default_payment;
 use lavroudem_model::deck::CALLS;
@@ -25,14 +25,20 @@ use std::collections::{BTreeMap, BTreeSet};
 const ANSWERS: [(Call, &[u8]); 7] = [
     (Issue, &[0, 2, 9, 17]),
     (Withdraw, &[0, 2, 9, 10]),
-    (Open, &[0, 1, 2, 3, 4, 25, 5, 6, 7, 8, 9, 10]),
-    (Back, &[0, 1, 2, 3, 4, 25, 5, 6, 7, 8, 9, 10, 11, 12, 13]),
-    (Value, &[0, 1, 2, 3, 4, 25, 5, 6, 7, 8, 9, 10, 11, 12, 14]),
+    (Open, &[0, 1, 2, 3, 4, 25, 5, 6, 7, 21, 8, 9, 10]),
+    (
+        Back,
+        &[0, 1, 2, 3, 4, 25, 5, 6, 7, 21, 8, 9, 10, 11, 12, 13],
+    ),
+    (
+        Value,
+        &[0, 1, 2, 3, 4, 25, 5, 6, 7, 21, 8, 9, 10, 11, 12, 14],
+    ),
     (
         Ratio,
-        &[0, 1, 2, 3, 4, 25, 5, 6, 7, 8, 9, 10, 11, 12, 14, 15, 16],
+        &[0, 1, 2, 3, 4, 25, 5, 6, 7, 21, 8, 9, 10, 11, 12, 14, 15, 16],
     ),
-    (Forward, &[0, 1, 2, 3, 4, 25, 5, 6, 7, 8, 9, 10, 13]),
+    (Forward, &[0, 1, 2, 3, 4, 25, 5, 6, 7, 21, 8, 9, 10, 13]),
 ];
 
 /// Document 01's number, and the figures; after a refusal there are none.
@@ -46,7 +52,7 @@ fn said(answer: Result<Vec<i128>, Refusal>) -> Answer {
 struct Tally {
     /// How often each call gave each number.
     answers: BTreeMap<(Call, u8), usize>,
-    /// How often each break of the periods was named by every call.
+    /// How often each break of periods or fractions was named by every call.
     breaks: Met,
 }
 
@@ -145,10 +151,10 @@ fn set_one(random: &mut Random, list: &mut [u64], figure: u64) {
     }
 }
 
-/// Hands back how it broke the periods, if it did that.
+/// Hands back how it broke periods or fractions, if it did that.
 fn damage_sheet(random: &mut Random, sheet: &mut Sheet) -> Option<Break> {
     let high = above(random, B);
-    match random.below(21) {
+    match random.below(24) {
         0 => sheet.names = outside(random, 125),
         1 => sheet.steps = outside(random, 3_650),
         2 => sheet.tranches = outside(random, 8),
@@ -167,7 +173,9 @@ fn damage_sheet(random: &mut Random, sheet: &mut Sheet) -> Option<Break> {
         15 => damage_accruals(random, &mut sheet.accruals),
         16 => resize(random, &mut sheet.starts, 1),
         17 => set_one(random, &mut sheet.starts, high),
-        18 | 19 => return Some(break_periods(random, sheet)),
+        18 => resize(random, &mut sheet.elapsed, 0),
+        19 => set_one(random, &mut sheet.elapsed, high),
+        20..=22 => return Some(break_lists(random, sheet)),
         _ => {
             let coupon = above(random, 10_000_000);
             set_one(random, &mut sheet.coupons, coupon);
@@ -211,15 +219,16 @@ fn damage_state(random: &mut Random, desk: &mut Desk) {
             set_one(random, &mut desk.default_row, entry);
         }
         _ => {
-            let entry = above(random, 10 * B - 1);
+            // No ceiling is higher: ten years, 125 names and 3,650 steps.
+            let entry = above(random, 10 * B + 125 + 2 * 3_650);
             set_one(random, &mut desk.premium_row, entry);
         }
     }
 }
 
-/// One damage or several to a whole desk. Hands back a break of the periods if
-/// no other refusal comes before its own: it alone befell the sheet, and what
-/// is lent beside it has its lengths still.
+/// One damage or several to a whole desk. Hands back a break of periods or
+/// fractions if no other refusal comes before its own: it alone befell the
+/// sheet, and what is lent beside it has its lengths still.
 fn damage(random: &mut Random, desk: &mut Desk) -> Option<Break> {
     let lengths = lent_lengths(desk);
     let mut to_sheet = Vec::new();
@@ -248,21 +257,22 @@ fn lent_lengths(desk: &Desk) -> [usize; 4] {
 fn lend_rows(random: &mut Random, desk: &mut Desk) {
     let sheet = &desk.sheet;
     desk.walk.position = random.below(sheet.steps + 1);
-    let highest = premium_ceiling(sheet, desk.walk.position) as u64;
+    let position = desk.walk.position;
+    let highest = |count| premium_ceiling(sheet, position, count) as u64;
     for tranche in 0..=sheet.index() {
         for count in 0..=sheet.names {
             let here = place(sheet, tranche, count);
             let most = default_ceiling(sheet, tranche, count) as u64;
             desk.default_row[here] = random.with_edges(0, most);
-            desk.premium_row[here] = random.with_edges(0, highest);
+            desk.premium_row[here] = random.with_edges(0, highest(count));
         }
     }
-    if random.one_in(4) {
-        let here = random.below(desk.default_row.len());
-        let (tranche, count) = (here / (sheet.names + 1), here % (sheet.names + 1));
-        desk.default_row[here] = default_ceiling(sheet, tranche, count) as u64 + 1;
-    } else if random.one_in(4) {
-        set_one(random, &mut desk.premium_row, highest + 1);
+    let here = random.below(desk.default_row.len());
+    let (tranche, count) = (here / (sheet.names + 1), here % (sheet.names + 1));
+    match random.below(5) {
+        0 => desk.default_row[here] = default_ceiling(sheet, tranche, count) as u64 + 1,
+        1 => desk.premium_row[here] = highest(count) + 1,
+        _ => {}
     }
 }
 
@@ -345,15 +355,22 @@ fn calls_on_larger_sheets() {
     let mut random = Random::new(0x5EED_0002);
     let mut tally = Tally::default();
     let mut periods = BTreeSet::new();
+    let mut fractions = BTreeSet::new();
     for _ in 0..40 {
         let names = random.with_edges(1, 125) as usize;
         let steps = random.with_edges(1, 60) as usize;
         let tranches = random.with_edges(1, 8) as usize;
         let sheet = random.sheet(names, steps, tranches);
         periods.insert(sheet.starts.len());
+        fractions.insert(has_fractions(&sheet));
         trial(&mut random, sheet, &mut tally);
     }
     assert!(periods.is_superset(&BTreeSet::from([1, 2, 3, 16])));
+    assert_eq!(fractions, BTreeSet::from([false, true]));
+}
+
+fn has_fractions(sheet: &Sheet) -> bool {
+    sheet.elapsed.iter().any(|&fraction| fraction > 0)
 }
 
 /// The largest tree, to the root in uneven calls.
@@ -361,7 +378,10 @@ fn calls_on_larger_sheets() {
 fn the_largest_tree() {
     let mut random = Random::new(0x5EED_0003);
     let mut tally = Tally::default();
-    let sheet = random.sheet(125, 3_650, 8);
+    let mut sheet = random.sheet(125, 3_650, 8);
+    while !has_fractions(&sheet) {
+        sheet = random.sheet(125, 3_650, 8);
+    }
     let mut desk = walked(&mut random, sheet, &mut tally);
     while desk.walk.position > 0 {
         desk.back_by = random.between(1, 900).min(desk.walk.position as u64) as usize;

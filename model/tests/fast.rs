@@ -6,6 +6,7 @@ use common::{breaks, plain_sheet, Random};
 use lavroudem_model::fast;
 use lavroudem_model::register;
 use lavroudem_model::sheet::Sheet;
+use lavroudem_model::tree::premium_ceiling;
 use lavroudem_model::walk::{self, row_length, Walk};
 use std::collections::BTreeSet;
 
@@ -39,12 +40,24 @@ fn same_as_the_model(sheet: &Sheet, first: usize) {
     soil(sheet, walk, &register, d, a);
 }
 
-/// One entry above its ceiling.
+/// One entry above its ceiling; every premium leg at its own is not.
 fn soil(sheet: &Sheet, walk: Walk, register: &[u8], mut d: Vec<u64>, mut a: Vec<u64>) {
+    let counts = sheet.names + 1;
+    let ceiling = |place: usize| premium_ceiling(sheet, walk.position, place % counts) as u64;
+    let mut at_ceilings: Vec<u64> = (0..a.len()).map(ceiling).collect();
+    let ask = |d: &mut [u64], a: &mut [u64]| {
+        let model = walk::back(walk, sheet, register, 0, d, a);
+        assert_eq!(fast::back(walk, sheet, register, 0, d, a), model);
+        model.1.is_ok()
+    };
+    assert!(ask(&mut d, &mut at_ceilings));
+    for place in 0..at_ceilings.len() {
+        at_ceilings[place] += 1;
+        assert!(!ask(&mut d, &mut at_ceilings));
+        at_ceilings[place] -= 1;
+    }
     d[sheet.names] = 1_000_000_001;
-    let model = walk::back(walk, sheet, register, 0, &mut d, &mut a);
-    assert_eq!(fast::back(walk, sheet, register, 0, &mut d, &mut a), model);
-    assert!(model.1.is_err());
+    assert!(!ask(&mut d, &mut a));
 }
 
 #[test]
@@ -56,12 +69,15 @@ fn random_sheets() {
         same_as_the_model(&sheet, first);
     }
     let mut periods = BTreeSet::new();
+    let mut fractions = BTreeSet::new();
     for _ in 0..16 {
         let sheet = random.sheet(125, 40, 8);
         periods.insert(sheet.starts.len());
+        fractions.insert(sheet.elapsed.iter().filter(|&&e| e > 0).count());
         same_as_the_model(&sheet, 17);
     }
     assert!(periods.is_superset(&BTreeSet::from([1, 2, 3, 16])));
+    assert!(fractions.is_superset(&BTreeSet::from([0, 40])) && fractions.len() > 3);
 }
 
 #[test]
@@ -81,12 +97,14 @@ fn damaged_sheets_are_refused_alike() {
         |s| s.accruals[0] = u64::MAX,
         |s| s.coupons[2] = 10_000_001,
     ];
-    let of_periods = breaks().map(|(_, _, change)| change);
-    let both: [fn(&mut Sheet); 2] = [
+    let of_lists = breaks().map(|(_, _, change)| change);
+    let both: [fn(&mut Sheet); 4] = [
         |s| (s.starts[0], s.attachments[1]) = (2, s.attachments[0]),
         |s| (s.starts[0], s.hazards[0]) = (2, 1_000_000_001),
+        |s| (s.elapsed[0], s.accruals[2]) = (2_000_001, 0),
+        |s| (s.elapsed[0], s.coupons[2]) = (2_000_001, 10_000_001),
     ];
-    for change in changes.into_iter().chain(of_periods).chain(both) {
+    for change in changes.into_iter().chain(of_lists).chain(both) {
         let mut sheet = plain_sheet(3, 3, 2);
         change(&mut sheet);
         let mut row = vec![0; 4];

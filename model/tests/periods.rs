@@ -181,16 +181,17 @@ fn sixteen_periods_are_near_their_exact_values() {
         assert_eq!(check(&sheet), Ok(()));
         let rows = rows_at(&sheet, 0);
         let one = exact::leg_denominator(&sheet, 0);
-        let within = |rounded: u128, exact: &Natural, doubled: u128| {
+        let within = |rounded: u128, exact: &Natural, doubled: usize| {
             let off = Natural::new(rounded).times(&one).distance(exact);
-            off.times(&Natural::new(2)) <= Natural::new(doubled).times(&one)
+            off.times(&Natural::new(2)) <= Natural::new(doubled as u128).times(&one)
         };
-        let dates = (1..=16).filter(|&step| sheet.is_premium_date(step)).count();
+        let [default_limit, premium_limit] = exact::doubled_distances(&sheet, 0);
         let default = default_leg(&sheet, &rows, 1, 0);
         let premium = premium_leg(&sheet, &rows, 1, 0);
-        assert!(within(default, &exact::default_leg(&sheet, 0, 1, 0), 32));
+        let exact = exact::default_leg(&sheet, 0, 1, 0);
+        assert!(within(default, &exact, default_limit));
         let exact = exact::premium_leg(&sheet, 0, 1, 0);
-        assert!(within(premium, &exact, 32 + dates as u128));
+        assert!(within(premium, &exact, premium_limit));
         let one = Natural::power_of_b(16);
         let chance = Natural::new(distribution(&sheet, 16)[0]).times(&one);
         let exact = exact::distribution(&sheet, 16)[0].times(&Natural::new(u128::from(B)));

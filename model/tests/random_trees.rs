@@ -4,7 +4,9 @@
 mod common;
 
 use common::{plain_sheet, spanning_sheet, Random, B};
-use lavroudem_model::cash::{default_payment, outstanding, premium_payment_over_b};
+use lavroudem_model::cash::{
+    default_payment, elapsed_payment_over_b, outstanding, premium_payment_over_b,
+};
 use lavroudem_model::exact::{self, Move};
 use lavroudem_model::natural::Natural;
 use lavroudem_model::sheet::{check, Sheet};
@@ -50,15 +52,6 @@ fn nodes(sheet: &Sheet) -> Vec<(usize, usize)> {
     nodes
 }
 
-/// Twice the distance owed at a position: (2h, 2h + q).
-fn doubled_limits(sheet: &Sheet, position: usize) -> (usize, usize) {
-    let steps = sheet.steps - position;
-    let dates = (position + 1..=sheet.steps)
-        .filter(|&step| sheet.is_premium_date(step))
-        .count();
-    (2 * steps, 2 * steps + dates)
-}
-
 /// Twice the distance of a rounded leg from its exact value, over the
 /// denominator.
 fn doubled_distance(rounded: u128, exact: &Natural, denominator: &Natural) -> Natural {
@@ -78,7 +71,7 @@ fn has_inner_accrual(sheet: &Sheet, accrual: u64) -> bool {
 
 #[test]
 fn trees_reach_every_extreme() {
-    let extremes: [(&str, Trait); 17] = [
+    let extremes: [(&str, Trait); 22] = [
         ("hazard 0", |s| s.hazards.contains(&0)),
         ("hazard B", |s| s.hazards.contains(&B)),
         ("recovery 0", |s| s.recovery == 0),
@@ -98,6 +91,17 @@ fn trees_reach_every_extreme() {
             s.steps > 3 && s.starts.len() == 2 && s.starts[1] == s.steps as u64
         }),
         ("fewest names and steps", |s| s.names == 1 && s.steps == 1),
+        ("no fraction", |s| s.elapsed == vec![0; s.steps]),
+        ("a fraction on each of 6 steps", |s| {
+            s.steps == 6 && !s.elapsed.contains(&0)
+        }),
+        ("fractions on some steps", |s| {
+            s.elapsed.contains(&0) && s.elapsed.iter().any(|&fraction| fraction > 1)
+        }),
+        ("fraction B", |s| s.elapsed.contains(&B)),
+        ("a fraction between dates", |s| {
+            (1..=s.steps).any(|step| s.elapsed(step) > 0 && !s.is_premium_date(step))
+        }),
     ];
     let trees = trees();
     for (name, applies) in extremes {
@@ -106,7 +110,7 @@ fn trees_reach_every_extreme() {
     }
 }
 
-/// D within h units and A within h + q/2 of the exact path sums.
+/// D within h units and A within h + (q + f)/2 of the exact path sums.
 #[test]
 fn legs_are_within_their_distances() {
     let mut default_off = 0;
@@ -114,7 +118,7 @@ fn legs_are_within_their_distances() {
     for sheet in trees() {
         for (position, rows) in rows_by_position(&sheet).iter().enumerate() {
             let denominator = exact::leg_denominator(&sheet, position);
-            let (default_limit, premium_limit) = doubled_limits(&sheet, position);
+            let [default_limit, premium_limit] = exact::doubled_distances(&sheet, position);
             for (tranche, count) in nodes(&sheet) {
                 let rounded = default_leg(&sheet, rows, tranche, count);
                 let exact = exact::default_leg(&sheet, position, tranche, count);
@@ -192,7 +196,10 @@ fn exact_legs_obey_the_unrounded_backward_rule() {
                     later.plus(&Natural::new(payment).times(&unit))
                 };
                 let premium_branch = |next: usize| {
-                    let payment = premium_payment_over_b(sheet, tranche, step, next);
+                    let mut payment = premium_payment_over_b(sheet, tranche, step, next);
+                    if next > count {
+                        payment += elapsed_payment_over_b(sheet, tranche, step, count);
+                    }
                     let later = exact::premium_leg(sheet, step, tranche, next);
                     later.plus(&Natural::new(payment).times(&payment_unit))
                 };
@@ -249,7 +256,7 @@ fn tranches_add_to_the_one_that_spans_them() {
                 let whole = exact::premium_leg(&span, position, 0, count);
                 assert_eq!(exact_premium, whole);
 
-                let (default_limit, premium_limit) = doubled_limits(&sheet, position);
+                let [default_limit, premium_limit] = exact::doubled_distances(&sheet, position);
                 let parts = sheet.tranches + 1;
                 let whole = default_leg(&span, &span_rows[position], 0, count);
                 assert!(2 * default.abs_diff(whole) <= (parts * default_limit) as u128);
@@ -275,7 +282,7 @@ fn tranches_of_the_whole_pool_add_to_the_index() {
         assert_eq!(check(&sheet), Ok(()));
         let index = sheet.index();
         for (position, rows) in rows_by_position(&sheet).iter().enumerate() {
-            let (_, limit) = doubled_limits(&sheet, position);
+            let [_, limit] = exact::doubled_distances(&sheet, position);
             for count in 0..=sheet.names {
                 let sum = |figure: &dyn Fn(usize) -> u128| (0..index).map(figure).sum::<u128>();
                 let left = |tranche| outstanding(&sheet, tranche, count);
@@ -319,7 +326,7 @@ fn rows_depend_on_nothing_else() {
 #[test]
 fn walked_rows_keep_their_ceilings() {
     let mut default_ceilings_reached = 0;
-    let mut premium_ceilings_reached = 0;
+    let mut above_the_accruals = 0;
     for sheet in trees() {
         for (position, rows) in rows_by_position(&sheet).iter().enumerate() {
             assert_eq!(first_over_ceiling(&sheet, rows, position), None);
@@ -329,15 +336,15 @@ fn walked_rows_keep_their_ceilings() {
                 assert!(default <= limit);
                 default_ceilings_reached += usize::from(default == limit && limit > 0);
                 let premium = premium_leg(&sheet, rows, tranche, count);
-                let limit = premium_ceiling(&sheet, position);
-                assert!(premium <= limit);
-                premium_ceilings_reached += usize::from(premium == limit && limit > 0);
+                assert!(premium <= premium_ceiling(&sheet, position, count));
+                let ahead = &sheet.accruals[position..];
+                above_the_accruals += usize::from(premium > ahead.iter().sum::<u64>().into());
             }
         }
     }
-    // No lower ceiling would do.
+    // No lower ceiling would do for D, and for A not the accruals alone.
     assert!(default_ceilings_reached > 0);
-    assert!(premium_ceilings_reached > 0);
+    assert!(above_the_accruals > 0);
 }
 
 /// At the ceiling a row is clean, one unit higher it is not, and of two
@@ -350,7 +357,7 @@ fn search_finds_the_first_entry_over_its_ceiling() {
             for (tranche, count) in nodes(sheet) {
                 let here = place(sheet, tranche, count);
                 rows.default_row[here] = default_ceiling(sheet, tranche, count);
-                rows.premium_row[here] = premium_ceiling(sheet, position);
+                rows.premium_row[here] = premium_ceiling(sheet, position, count);
             }
             assert_eq!(first_over_ceiling(sheet, &rows, position), None);
             // From the last node to the first, so each find is the first.
@@ -375,20 +382,35 @@ fn search_finds_the_first_entry_over_its_ceiling() {
     }
 }
 
+/// With a unit for each name that is left, and two for each step.
 #[test]
 fn premium_ceiling_counts_the_accruals_to_come() {
     let mut sheet = plain_sheet(2, 3, 1);
-    sheet.accruals = vec![100, 20, 3];
-    let ceilings = [0, 1, 2, 3].map(|position| premium_ceiling(&sheet, position));
-    assert_eq!(ceilings, [123, 23, 3, 0]);
+    sheet.accruals = vec![1_000, 200, 30];
+    for (position, ceilings) in [
+        (0, [1_238, 1_237, 1_236]),
+        (1, [236, 235, 234]),
+        (2, [34, 33, 32]),
+        (3, [2, 1, 0]),
+    ] {
+        let found = [0, 1, 2].map(|count| premium_ceiling(&sheet, position, count));
+        assert_eq!(found, ceilings);
+        // Fractions do not move it.
+        sheet.elapsed = vec![30; 3];
+        assert_eq!(check(&sheet), Ok(()));
+        let found = [0, 1, 2].map(|count| premium_ceiling(&sheet, position, count));
+        assert_eq!(found, ceilings);
+    }
 }
 
-/// A default never hurts the holder of protection, on rows of a walk.
+/// Without fractions a default never hurts the holder of protection, on rows
+/// of a walk.
 #[test]
 fn jumps_on_walked_rows_are_never_negative() {
     let mut positive = 0;
     let mut zero = 0;
-    for sheet in trees() {
+    for mut sheet in trees() {
+        sheet.elapsed.fill(0);
         for rows in rows_by_position(&sheet) {
             for (tranche, count) in nodes(&sheet) {
                 if count == sheet.names {
@@ -405,6 +427,27 @@ fn jumps_on_walked_rows_are_never_negative() {
         }
     }
     assert!(positive > 0 && zero > 0);
+}
+
+/// With fractions the premium may make a jump negative, but what is paid for
+/// defaults still never falls by more than the next one pays.
+#[test]
+fn default_halves_of_jumps_are_never_negative() {
+    let mut negative = 0;
+    for sheet in trees() {
+        for rows in rows_by_position(&sheet) {
+            for (tranche, count) in nodes(&sheet) {
+                if count == sheet.names {
+                    continue;
+                }
+                let next = default_leg(&sheet, &rows, tranche, count + 1);
+                let paid = next + default_payment(&sheet, tranche, count);
+                assert!(paid >= default_leg(&sheet, &rows, tranche, count));
+                negative += usize::from(jump(&sheet, &rows, tranche, count) < 0);
+            }
+        }
+    }
+    assert!(negative > 20, "{negative}");
 }
 
 /// Every way to write `total` as a list of positive parts.
@@ -471,23 +514,28 @@ fn distribution_totals_one_and_stays_near_the_exact_one() {
     assert!(rows_off > 100);
 }
 
-/// The largest tree: nothing overflows, ceilings and totals hold.
+/// The largest tree: nothing overflows, ceilings and totals hold, without
+/// fractions and with the highest.
 #[test]
 fn largest_tree_walks_to_its_root() {
     let mut sheet = plain_sheet(125, 3_650, 8);
     sheet.attachments = (0..9).map(|point| B / 8 * point).collect();
     sheet.hazards = (0..125).map(|k| 3_000_000 + 700_000 * k).collect();
-    assert_eq!(check(&sheet), Ok(()));
-    let mut rows = Rows::zero(&sheet);
-    let mut position = sheet.steps;
-    while position > 0 {
-        position = roll_back(&sheet, &mut rows, position, 365);
-        assert_eq!(first_over_ceiling(&sheet, &rows, position), None);
-        for (tranche, count) in nodes(&sheet) {
-            assert!(count == 125 || jump(&sheet, &rows, tranche, count) >= 0);
+    for fraction in [0, 2_000_000] {
+        sheet.elapsed.fill(fraction);
+        assert_eq!(check(&sheet), Ok(()));
+        let mut rows = Rows::zero(&sheet);
+        let mut position = sheet.steps;
+        while position > 0 {
+            position = roll_back(&sheet, &mut rows, position, 365);
+            assert_eq!(first_over_ceiling(&sheet, &rows, position), None);
+            for (tranche, count) in nodes(&sheet) {
+                let no_jump = fraction > 0 || count == 125;
+                assert!(no_jump || jump(&sheet, &rows, tranche, count) >= 0);
+            }
+            let row = distribution(&sheet, sheet.steps - position);
+            assert_eq!(row.iter().sum::<u128>(), u128::from(B));
         }
-        let row = distribution(&sheet, sheet.steps - position);
-        assert_eq!(row.iter().sum::<u128>(), u128::from(B));
     }
     // Without discount and with certain defaults, the index loses its width.
     sheet.discounts = vec![B; 3_650];

@@ -1,5 +1,5 @@
-//! Refusals 1 to 8 and 25 of a sheet, each at both sides of its limits, and their
-//! order.
+//! Refusals 1 to 8, 21 and 25 of a sheet, each at both sides of its limits, and
+//! their order.
 
 mod common;
 
@@ -35,6 +35,7 @@ fn numbers_and_words() {
         (Refusal::Unknown, 18, "unknown"),
         (Refusal::CutShort, 19, "cut short"),
         (Refusal::TooMany, 20, "too many"),
+        (Refusal::Elapsed, 21, "elapsed"),
         (Refusal::Periods, 25, "periods"),
     ];
     assert_eq!(table.map(|(refusal, _, _)| refusal), Refusal::ALL);
@@ -73,6 +74,7 @@ fn list(sheet: &mut Sheet, place: usize) -> &mut Vec<u64> {
         2 => &mut sheet.hazards,
         3 => &mut sheet.discounts,
         4 => &mut sheet.accruals,
+        5 => &mut sheet.elapsed,
         _ => &mut sheet.coupons,
     }
 }
@@ -87,6 +89,14 @@ fn accruing(accruals: Vec<u64>) -> Sheet {
     Sheet {
         accruals: accruals.clone(),
         ..plain_sheet(3, accruals.len(), 2)
+    }
+}
+
+/// A sheet of so many steps with these fractions.
+fn elapsing(accruals: Vec<u64>, elapsed: Vec<u64>) -> Sheet {
+    Sheet {
+        elapsed,
+        ..accruing(accruals)
     }
 }
 
@@ -118,9 +128,9 @@ fn cases() -> Vec<Case> {
         1 1: s.tranches = usize::MAX;
         0 1: *s = plain_sheet(125, 3_650, 8);
 
-        2 6: list(s, k).pop();
-        2 6: list(s, k).clear();
-        2 6: lengthen(list(s, k));
+        2 7: list(s, k).pop();
+        2 7: list(s, k).clear();
+        2 7: lengthen(list(s, k));
         // n hazards for each start, and 1 to 16 starts.
         2 1: set_starts(s, &[]);
         2 1: { set_starts(s, &[1, 3]); s.hazards.truncate(3) };
@@ -197,6 +207,29 @@ fn cases() -> Vec<Case> {
         7 1: *s = accruing(vec![1 << 63, 1 << 63, 1]);
         7 1: *s = accruing(vec![u64::MAX; 3_650]);
 
+        0 3: s.elapsed[k] = 1;
+        0 3: s.elapsed[k] = 2_000_000;
+        21 3: s.elapsed[k] = 2_000_001;
+        21 3: s.elapsed[k] = u64::MAX;
+        0 1: s.elapsed = vec![2_000_000; 3];
+        // By the date at the step or behind it, not the one before.
+        0 1: *s = elapsing(vec![5, 0, 0, 9], vec![5, 9, 9, 9]);
+        21 1: *s = elapsing(vec![5, 0, 0, 9], vec![6, 9, 9, 9]);
+        21 1: *s = elapsing(vec![5, 0, 0, 9], vec![5, 10, 9, 9]);
+        21 1: *s = elapsing(vec![5, 0, 0, 9], vec![5, 9, 10, 9]);
+        21 1: *s = elapsing(vec![5, 0, 0, 9], vec![5, 9, 9, 10]);
+        0 1: *s = elapsing(vec![9, 0, 0, 5], vec![9, 5, 5, 5]);
+        21 1: *s = elapsing(vec![9, 0, 0, 5], vec![9, 6, 5, 5]);
+        21 1: *s = elapsing(vec![9, 0, 0, 5], vec![9, 5, 6, 5]);
+        21 1: *s = elapsing(vec![0, 9, 0, 5], vec![10, 0, 0, 0]);
+        // The nearest of the dates ahead, not the longest of them.
+        0 1: *s = elapsing(vec![0, 2, 7, 4], vec![2, 2, 7, 4]);
+        21 1: *s = elapsing(vec![0, 2, 7, 4], vec![3, 2, 7, 4]);
+        21 1: *s = elapsing(vec![0, 2, 7, 4], vec![2, 3, 7, 4]);
+        // A year, and no more; together they may be above ten.
+        0 1: *s = elapsing([vec![0; 19], vec![B]].concat(), vec![B; 20]);
+        21 1: *s = elapsing([vec![0; 19], vec![B]].concat(), vec![B + 1; 20]);
+
         0 3: s.coupons[k] = 0;
         0 3: s.coupons[k] = 10_000_000;
         8 3: s.coupons[k] = 10_000_001;
@@ -222,11 +255,11 @@ fn limits_of_a_sheet() {
 
 type Fault = fn(&mut Sheet);
 
-/// Every set of the nine faults is tried; the first of them must win, and 25
-/// stands between 4 and 5.
+/// Every set of the ten faults is tried; the first of them must win. 25 stands
+/// between 4 and 5, and 21 between 7 and 8.
 #[test]
 fn first_fault_is_named() {
-    let faults: [(Refusal, Fault); 9] = [
+    let faults: [(Refusal, Fault); 10] = [
         (Refusal::Pool, |s| s.names = 126),
         (Refusal::Length, |s| s.hazards.push(0)),
         (Refusal::Recovery, |s| s.recovery = B + 1),
@@ -237,9 +270,10 @@ fn first_fault_is_named() {
         (Refusal::Hazard, |s| s.hazards[1] = B + 1),
         (Refusal::Discount, |s| s.discounts[1] = 0),
         (Refusal::Accrual, |s| s.accruals[2] = 0),
+        (Refusal::Elapsed, |s| s.elapsed[0] = 2_000_001),
         (Refusal::Coupon, |s| s.coupons[0] = 10_000_001),
     ];
-    for set in 1_u32..512 {
+    for set in 1_u32..1_024 {
         let mut sheet = plain_sheet(3, 3, 2);
         for (place, (_, fault)) in faults.iter().enumerate() {
             if set >> place & 1 == 1 {
@@ -251,9 +285,9 @@ fn first_fault_is_named() {
     }
 }
 
-/// On sheets of any number of periods, small and large.
+/// On sheets of any number of periods and fractions, small and large.
 #[test]
-fn every_break_of_the_periods_is_refused() {
+fn every_break_of_the_lists_is_refused() {
     let mut random = Random::new(25);
     for at in 0..200 {
         let sheet = match at % 4 {

@@ -45,6 +45,7 @@ checks! {
     three_names_are_described;
     whole_pool_is_described;
     two_periods_are_described;
+    fractions_are_described;
     refusals_are_the_models;
     named_refusals_are_the_models;
     commands_are_the_models;
@@ -89,16 +90,18 @@ fn refusals_are_the_models(page: &str) -> Found {
     numbers_in_between_are_free(page)
 }
 
-/// The numbers that no refusal has, and the one that is out of turn.
+/// The numbers that no refusal has, and the two that are out of turn.
 fn numbers_in_between_are_free(page: &str) -> Found {
     let last = Refusal::Periods.number();
     let taken = |number: &u8| Refusal::ALL.iter().any(|known| known.number() == *number);
     let free: Vec<u8> = (1..=last).filter(|number| !taken(number)).collect();
     let (first, end) = (free[0], free[free.len() - 1]);
     same(free.len(), usize::from(end - first + 1), "a gap")?;
-    let before = Refusal::Hazard.number();
-    let free = format!("The numbers {first} to {end} stand for nothing,");
-    says(page, &format!("{free} and {last} comes before {before}:"))
+    let [before, elapsed, after] =
+        [Refusal::Hazard, Refusal::Elapsed, Refusal::Accrual].map(Refusal::number);
+    let free = format!("The numbers {first} to {end} stand for nothing;");
+    let places = format!("{last} comes before {before}, and {elapsed} after {after}:");
+    says(page, &format!("{free} {places}"))
 }
 
 fn named_refusals_are_the_models(page: &str) -> Found {
@@ -174,29 +177,35 @@ const PHRASES: &[&str] = &[
     "The first start is 1 and the others rise strictly, none above m.",
     "| v(1) to v(m) |",
     "| a(1) to a(m) |",
+    "| e(1) to e(m) |",
+    "on the same nominal. With 0 it brings nothing.",
     "Tranche j, counted from 0, lies between point j and point j + 1. The first point may be above 0",
     "takes the count from k to k + 1. Its period is that of step s,",
     "At the count n nobody is left, so p(s, n) = 0.",
     "A unit at step i is worth v(i) / B units at step i - 1.",
     "just when its accrual is not 0. The last accrual is at least 1,",
     "pays M(k + 1) - M(k) at step i, where k is the count before it.",
+    "at step i and beside P(i, k + 1), which is paid on what is left.",
     "prints 12 defaults on two lines, of which the second is for 13.",
     "one for each step s from i + 1 to m,",
     "has the chance p(s, k(s - 1)), a stay the chance B - p(s, k(s - 1)).",
     "is multiplied by v(i + 1) × ... × v(s).",
     "counts the payments M(k(s)) - M(k(s - 1)), which are 0 for a stay.",
+    "counts P(s, k(s)), and for a default E(s, k(s - 1)) too, neither rounded.",
     "one whole number over B^(2h + 1): B^h for the chances, B^h for the discounts, one B for the cash:",
     "weight × Σ s: v(i + 1) × ... × v(s) × B^(m - s) × B × (M(k(s)) - M(k(s - 1)))\n",
-    "weight × Σ s: v(i + 1) × ... × v(s) × B^(m - s) × a(s) × O(k(s))\n",
+    "weight × Σ s: v(i + 1) × ... × v(s) × B^(m - s) × (a(s) × O(k(s)) + e(s) × (O(k(s - 1)) - O(k(s))))\n",
+    "For a stay the last difference is 0.",
     "A fresh walk is closed, with 0 in both others.",
     "at position m. Every entry of both rows is 0,",
     "Back by 0 is accepted and changes nothing.",
     "those of position i + 1.",
-    "how many premium dates are among these steps, m - h + 1 to m. The walk then stands at m - h.",
-    "| D in the rows | its exact value | h |\n| A in the rows | its exact value | h + q/2 |\n",
+    "how many premium dates are among these steps, m - h + 1 to m, and f how many of the same steps have an elapsed fraction other than 0,",
+    "The walk then stands at m - h.",
+    "| D in the rows | its exact value | h |\n| A in the rows | its exact value | h + (q + f)/2 |\n",
     "| the sum of D over tranches 0 to r - 1, at each count | D of the tranche that spans them | (r + 1) × h |",
-    "| the sum of A over tranches 0 to r - 1, at each count | A of the tranche that spans them | (r + 1) × (h + q/2) |",
-    "| the same sum, if the tranches are the whole pool | A of the index in the same rows | (r + 1) × (h + q/2) |",
+    "| the sum of A over tranches 0 to r - 1, at each count | A of the tranche that spans them | (r + 1) × (h + (q + f)/2) |",
+    "| the same sum, if the tranches are the whole pool | A of the index in the same rows | (r + 1) × (h + (q + f)/2) |",
     "The tranches are the whole pool if their attachment points run from 0 to B. Then their O(k) add to that of the index,",
     "Where the tranches are the whole pool, their exact A add to that of the index, without a distance.",
     "which leaves it less than two units too high",
@@ -212,7 +221,8 @@ const PHRASES: &[&str] = &[
     "| J of the index is 0 |",
     "| the first start is not 1, starts do not rise strictly, or one is above m |\n",
     "| by size J of the tranche is 1,000,000 times J of the index, or more |",
-    "**Sheet commands**, 01 to 05, enter",
+    "**Sheet commands**, 01 to 05 and 0D, enter",
+    "A deck that enters no elapsed fraction has m of them, all 0;",
     "the sheet of a deck has one period, from step 1 on.",
     "names, steps, tranches, recovery and number are all 0,",
     "**Calls**, 06 to 0C, print one line each: the word, then the refusal's number alone, or 0 and the answer.",
@@ -220,6 +230,9 @@ const PHRASES: &[&str] = &[
     "checked for 18, 19 and 20, in this order,",
     "the offset of the command's byte, counted from 0,",
     "so 18 and 19 are never met together (",
+    "The first default leaves O(1) and takes the rest away.",
+    "One step, one premium date and one fraction allow 2.",
+    "taken on O(k), or on O(k + 1) | names that stay are paid for twice |",
     "Only step 2 is a premium date, for a year. At position 2 the rows are 0.",
     "M(2) stops at the width, since L(2) is above the upper attachment point.",
     "so the distance may be 1.",
@@ -323,7 +336,7 @@ fn rooms_are_the_engines(page: &str) -> Found {
     let sizes: Result<Vec<i128>, String> = rows.iter().map(|row| whole(row[1])).collect();
     let sizes = sizes?;
     same(sizes.len(), 4, "rooms")?;
-    let numbers = 2 * (MAX_TRANCHES + 1) + 1 + MAX_NAMES + 2 * MAX_STEPS;
+    let numbers = 2 * (MAX_TRANCHES + 1) + 1 + MAX_NAMES + 3 * MAX_STEPS;
     let entries = (MAX_TRANCHES + 1) * (MAX_NAMES + 1);
     same(&sizes[..2], &[numbers as i128, entries as i128], "rooms")?;
     let source = fs::read_to_string(root().join("crates/deck/src/lib.rt")).unwrap();

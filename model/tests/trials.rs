@@ -45,12 +45,15 @@ fn numbers_answered(line: &str) -> Vec<&str> {
     answered.map(|pair| pair[1]).collect()
 }
 
+fn is_refused(line: &str) -> bool {
+    numbers_answered(line).iter().any(|&number| number != "0")
+}
+
 /// A value that an edge takes answers otherwise when it is moved; or it is
 /// the last that answers so, and the next one is tried too. What is accepted
 /// beside a refusal has to answer otherwise.
 #[test]
 fn values_stand_at_their_edge() {
-    let is_refused = |line: &str| numbers_answered(line).iter().any(|&number| number != "0");
     for edge in edges() {
         for value in edge.values.clone() {
             let here = answers(&edge.at(value));
@@ -103,6 +106,14 @@ fn lines(edge: &Edge, name: &str, number: u64) -> Vec<String> {
     edge.values.clone().map(line).collect()
 }
 
+/// Whether a number stands just beyond its limit, where an edge of its own
+/// tries it. It may go further beyond unseen.
+fn is_beyond(name: &str, number: u64) -> bool {
+    let tries = |edge: &Edge| edge.number == name && *edge.values.end() == number;
+    let refuses = |edge: &Edge| is_refused(&answers(&edge.at(number)));
+    edges().iter().any(|edge| tries(edge) && refuses(edge))
+}
+
 /// What an edge changes of the plain trial is seen in its own lines.
 #[test]
 fn numbers_of_an_edge_are_seen() {
@@ -113,7 +124,8 @@ fn numbers_of_an_edge_are_seen() {
             }
             let usual = lines(&edge, name, number);
             for other in moved(number) {
-                let seen = lines(&edge, name, other) != usual;
+                let further = other > number && is_beyond(name, number);
+                let seen = further || lines(&edge, name, other) != usual;
                 assert!(seen, "{} {:?}: {name} {other}", edge.number, edge.values);
             }
         }

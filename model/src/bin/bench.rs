@@ -90,7 +90,8 @@ fn main() {
     println!("NAME engine_ms model_ms ratio");
     let full = sheet(125, 3650, 8);
     let periods = in_periods(&full);
-    let lines: [Line; 8] = [
+    let elapsed = with_elapsed(&full);
+    let lines: [Line; 9] = [
         ("walk_full", &full, walk),
         ("walk_steps", &full, steps),
         ("value_1000", &full, values),
@@ -99,9 +100,10 @@ fn main() {
         ("walk_periods", &periods, walk),
         ("walk_steps_periods", &periods, steps),
         ("forward_periods", &periods, forward),
+        ("walk_elapsed", &elapsed, walk),
     ];
     let best = compare(&lines);
-    for (line, other) in [(1, 0), (5, 0), (6, 1), (7, 3)] {
+    for (line, other) in [(1, 0), (5, 0), (6, 1), (7, 3), (8, 0)] {
         let times = best[line] / best[other];
         println!("# {} is {times:.2} times {}", lines[line].0, lines[other].0);
     }
@@ -155,6 +157,7 @@ fn sheet(names: usize, steps: usize, tranches: usize) -> Sheet {
             .map(|i| 999_900_000 + i % 7 * 10_000)
             .collect(),
         accruals: (0..steps).map(accrual).collect(),
+        elapsed: vec![0; steps],
         coupons: (0..=tranches as u64)
             .map(|j| 5_000_000 - 500_000 * j)
             .collect(),
@@ -167,6 +170,16 @@ fn in_periods(sheet: &Sheet) -> Sheet {
     Sheet {
         starts: (0..MAX_PERIODS).map(start).collect(),
         hazards: sheet.hazards.repeat(MAX_PERIODS),
+        ..sheet.clone()
+    }
+}
+
+/// The same with a fraction on every step: what has been earned since the last
+/// premium date.
+fn with_elapsed(sheet: &Sheet) -> Sheet {
+    let fraction = |step: usize| (1 + step % 91) as u64 * 2_600_000;
+    Sheet {
+        elapsed: (0..sheet.steps).map(fraction).collect(),
         ..sheet.clone()
     }
 }

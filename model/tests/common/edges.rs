@@ -106,10 +106,17 @@ fn most_periods() -> Sheet {
     sheet
 }
 
+/// Only the last step pays, and for longer than the others did; this fraction
+/// is that of the first.
+fn far_date(sheet: &mut Sheet, fraction: u64) {
+    sheet.accruals = vec![0, 0, 3_000_000];
+    sheet.elapsed[0] = fraction;
+}
+
 /// In the order of the checks. An outside change keeps off what those of other refusals touch, so that
 /// several can be made to one desk. An added figure is a good one. The places
-/// in the rows are at count 3, which no jump at count 0 looks at; in a row of
-/// the base desk the step is 4.
+/// in the rows are at the counts 2 and 3, which no jump at count 0 looks at; in
+/// a row of the base desk the step is 4.
 pub fn edges() -> Vec<Edge> {
     edges! { |d|
         // Refusal   calls      up to the limit                           beyond it
@@ -133,6 +140,8 @@ pub fn edges() -> Vec<Edge> {
         Length       ALL:       as_it_is(d),                              d.sheet.discounts.push(B);
         Length       ALL:       as_it_is(d),                              d.sheet.accruals.pop();
         Length       ALL:       as_it_is(d),                              d.sheet.accruals.push(1);
+        Length       ALL:       as_it_is(d),                              d.sheet.elapsed.pop();
+        Length       ALL:       as_it_is(d),                              d.sheet.elapsed.push(0);
         Length       ALL:       as_it_is(d),                              d.sheet.coupons.pop();
         Length       ALL:       as_it_is(d),                              d.sheet.coupons.push(0);
         Length       ALL:       as_it_is(d),                              d.register.pop();
@@ -161,6 +170,9 @@ pub fn edges() -> Vec<Edge> {
         Discount     ALL:       with(d, |s| s.discounts[0] = B),          d.sheet.discounts[0] = B + 1;
         Accrual      ALL:       with(d, |s| s.accruals[0] = B),           d.sheet.accruals[0] = B + 1;
         Accrual      ALL:       with(d, |s| s.accruals[2] = 1),           *last(&mut d.sheet.accruals) = 0;
+        Elapsed      ALL:       with(d, |s| s.elapsed[0] = 2_000_000),    d.sheet.elapsed[0] = 2_000_001;
+        Elapsed      ALL:       with(d, |s| s.elapsed[2] = 2_000_000),    *last(&mut d.sheet.elapsed) = 2_000_001;
+        Elapsed      ALL:       with(d, |s| s.elapsed[1] = 1),            d.sheet.elapsed[1] = u64::MAX;
         Coupon       ALL:       with(d, |s| s.coupons[0] = 10_000_000),   d.sheet.coupons[0] = 10_000_001;
         Coupon       ALL:       with(d, |s| s.coupons[2] = 10_000_000),   *last(&mut d.sheet.coupons) = 10_000_001;
 
@@ -174,7 +186,8 @@ pub fn edges() -> Vec<Edge> {
         NoWalk       ON_A_WALK: as_it_is(d),                              d.walk.position = usize::MAX;
         OverCeiling  ON_A_WALK: d.default_row[3] = 0,                     d.default_row[3] = 1;
         OverCeiling  ON_A_WALK: as_it_is(d),                              d.default_row[4 + 3] = u64::MAX;
-        OverCeiling  ON_A_WALK: d.premium_row[3] = 2_000_000,             d.premium_row[3] = 2_000_001;
+        OverCeiling  ON_A_WALK: d.premium_row[3] = 2_000_002,             d.premium_row[3] = 2_000_003;
+        OverCeiling  ON_A_WALK: d.premium_row[4 + 2] = 2_000_003,         d.premium_row[4 + 2] = 2_000_004;
         OverCeiling  ON_A_WALK: as_it_is(d),                              d.premium_row[4 + 3] = u64::MAX;
 
         OutOfSteps   BACK:      d.back_by = 2,                            d.back_by = 3;
@@ -203,12 +216,14 @@ pub fn lone_edges() -> Vec<Edge> {
         Length       ALL:       as_it_is(d),                              d.sheet.hazards.clear();
         Length       ALL:       as_it_is(d),                              d.sheet.discounts.clear();
         Length       ALL:       as_it_is(d),                              d.sheet.accruals.clear();
+        Length       ALL:       as_it_is(d),                              d.sheet.elapsed.clear();
         Length       ALL:       as_it_is(d),                              d.sheet.coupons.clear();
         Length       ALL:       as_it_is(d),                              d.register.clear();
         Length       LENT_ROWS: as_it_is(d),                              d.default_row.clear();
         Length       LENT_ROWS: as_it_is(d),                              d.premium_row.clear();
         Length       FORWARD:   as_it_is(d),                              d.forward_row.clear();
         Accrual      ALL:       restart(d, ten_years()),                  { restart(d, ten_years()); d.sheet.accruals[4] = B };
+        Elapsed      ALL:       with(d, |s| far_date(s, 3_000_000)),      far_date(&mut d.sheet, 3_000_001);
         FlatHedge    RATIO:     as_it_is(d),                              jumps(d, 0, 200_000_000);
     }
 }

@@ -32,6 +32,7 @@ pub fn plain_sheet(names: usize, steps: usize, tranches: usize) -> Sheet {
         hazards: (0..names as u64).map(|k| 1_000_000 + 10_000 * k).collect(),
         discounts: vec![999_900_000; steps],
         accruals: vec![2_000_000; steps],
+        elapsed: vec![0; steps],
         coupons: (0..points).map(|place| 500_000 + 1_000 * place).collect(),
     }
 }
@@ -42,11 +43,12 @@ pub fn set_starts(sheet: &mut Sheet, starts: &[u64]) {
     sheet.hazards.resize(sheet.names.min(125) * starts.len(), 0);
 }
 
-/// A way to break a sheet's periods: its name, the refusal and the change.
+/// A way to break a sheet's periods or elapsed fractions: its name, the refusal
+/// and the change.
 pub type Break = (&'static str, Refusal, fn(&mut Sheet));
 
-/// Each is met by a sheet that is accepted, whatever its starts.
-pub fn breaks() -> [Break; 12] {
+/// Each is met by a sheet that is accepted, whatever its starts and fractions.
+pub fn breaks() -> [Break; 19] {
     [
         ("no start", Refusal::Length, |s| s.starts.clear()),
         ("nothing", Refusal::Length, |s| set_starts(s, &[])),
@@ -71,11 +73,28 @@ pub fn breaks() -> [Break; 12] {
         ("the first at m + 1", Refusal::Periods, |s| {
             set_starts(s, &[(s.steps as u64).wrapping_add(1)])
         }),
+        ("no fraction", Refusal::Length, |s| s.elapsed.clear()),
+        ("a fraction more", Refusal::Length, |s| s.elapsed.push(0)),
+        ("a fraction less", Refusal::Length, |s| {
+            s.elapsed.pop();
+        }),
+        ("the first fraction too long", Refusal::Elapsed, |s| {
+            raise_fraction(s, 0)
+        }),
+        ("the last fraction too long", Refusal::Elapsed, |s| {
+            raise_fraction(s, s.elapsed.len().saturating_sub(1))
+        }),
+        ("a fraction above a year", Refusal::Elapsed, |s| {
+            s.elapsed.fill(B + 1)
+        }),
+        ("the longest fraction", Refusal::Elapsed, |s| {
+            s.elapsed.fill(u64::MAX)
+        }),
     ]
 }
 
-/// Breaks the periods in one of these ways.
-pub fn break_periods(random: &mut Random, sheet: &mut Sheet) -> Break {
+/// Breaks the sheet in one of these ways.
+pub fn break_lists(random: &mut Random, sheet: &mut Sheet) -> Break {
     let way = breaks()[random.below(breaks().len())];
     let (_, _, change) = way;
     change(sheet);
@@ -88,13 +107,25 @@ pub type Met = BTreeMap<&'static str, usize>;
 pub fn assert_every_break_is_met(met: &Met) {
     for (name, _, _) in breaks() {
         let times = met.get(name).copied().unwrap_or(0);
-        assert!(times >= 5, "periods broken by '{name}' only {times} times");
+        assert!(times >= 5, "broken by '{name}' only {times} times");
     }
 }
 
 fn set_first_start(sheet: &mut Sheet, start: u64) {
     if let Some(first) = sheet.starts.first_mut() {
         *first = start;
+    }
+}
+
+/// One more than the next premium date's accrual, where there is such a place.
+pub fn raise_fraction(sheet: &mut Sheet, place: usize) {
+    let next = sheet
+        .accruals
+        .iter()
+        .skip(place)
+        .find(|&&accrual| accrual != 0);
+    if let (Some(&accrual), Some(fraction)) = (next, sheet.elapsed.get_mut(place)) {
+        *fraction = accrual.saturating_add(1);
     }
 }
 

@@ -5,12 +5,13 @@ use super::{between, blocks, cells, ensure, same, says, section, table, Found};
 use crate::arithmetic::{commas, work_out, Ratio};
 use crate::common::{plain_sheet, Random};
 use lavroudem_model::cash::{
-    half, outstanding, pool_loss, premium_payment, recovered, tranche_loss, tranche_recovery, width,
+    elapsed_payment, half, outstanding, pool_loss, premium_payment, recovered, tranche_loss,
+    tranche_recovery, width,
 };
 use lavroudem_model::sheet::{Sheet, B};
 use lavroudem_model::tree::{
-    default_ceiling, default_leg, distribution, jump, net_value, place, premium_leg,
-    ratio_in_millionths, Rows,
+    default_ceiling, default_leg, distribution, jump, net_value, place, premium_ceiling,
+    premium_leg, ratio_in_millionths, Rows,
 };
 use lavroudem_model::worked;
 
@@ -61,6 +62,7 @@ impl Scene<'_> {
             "B" => Some(B as i128),
             "R" => Some(sheet.recovery.into()),
             "n" => Some(sheet.names as i128),
+            "m" => Some(sheet.steps as i128),
             "k" => Some(self.count as i128),
             "j" => Some(self.tranche as i128),
             "i" => Some(self.step as i128),
@@ -88,6 +90,7 @@ impl Scene<'_> {
             "O" => outstanding(sheet, tranche, place),
             "v" if is_step => sheet.discount(place),
             "a" if is_step => sheet.accrual(place),
+            "e" if is_step => sheet.elapsed(place),
             _ => return None,
         };
         Some(number as i128)
@@ -134,7 +137,7 @@ fn everywhere(check: &dyn Fn(Scene) -> Found) -> Found {
     let sizes = [(1, 1, 1), (2, 5, 1), (3, 4, 2), (4, 3, 3)];
     let mut sheets = sizes.map(|(n, m, r)| random.sheet(n, m, r)).to_vec();
     sheets.extend(losses_beside_points());
-    sheets.push(worked::two_periods());
+    sheets.extend([worked::two_periods(), worked::earned()]);
     for sheet in sheets {
         let (names, steps, tranches) = (sheet.names, sheet.steps, sheet.tranches);
         for position in 0..=steps {
@@ -304,7 +307,7 @@ pub fn figure_formulas_are_the_models(page: &str) -> Found {
     })
 }
 
-/// Where an entry stands in its row, its ceilings, and the premium payments.
+/// Where an entry stands in its row, its ceilings, and both premium payments.
 pub fn entry_formulas_are_the_models(page: &str) -> Found {
     let start = "the entry of tranche j and count k is at ";
     let entry = between(page, start, ", counted from 0, the index last")?;
@@ -313,24 +316,40 @@ pub fn entry_formulas_are_the_models(page: &str) -> Found {
         page,
         "is P(i, k) = a(i) × O(k) / B, for the count that the step has led to.",
     )?;
-    let ceilings = table(page, "| Entry | Ceiling |")?.concat();
-    let [_, most, _, _] = cells(&ceilings)?;
-    same(
-        ceilings[2..].join(": "),
-        "A(i, k): a(i + 1) + ... + a(m)".into(),
-        "a ceiling",
+    let earned = between(page, "In the rows it is ", ", rounded by itself;")?;
+    says(
+        page,
+        "E(i, k) = e(i) × (O(k) - O(k + 1)) / B, where k is the count before it.",
     )?;
+    let ceilings = table(page, "| Entry | Ceiling |")?.concat();
+    let [_, most, _, premium] = cells(&ceilings)?;
+    same(
+        [ceilings[0], ceilings[2]],
+        ["D(i, k)", "A(i, k)"],
+        "entries",
+    )?;
+    let units = premium.strip_prefix("a(i + 1) + ... + a(m) + ");
+    let units = units.ok_or("another ceiling of A")?;
     everywhere(&|scene| {
         let (sheet, tranche, count) = (scene.sheet, scene.tranche, scene.count);
         let right = place(sheet, tranche, count) as i128;
         same(scene.work_out(entry)?, right, "an entry")?;
         let right = default_ceiling(sheet, tranche, count) as i128;
         same(scene.work_out(most)?, right, "a ceiling")?;
+        let accruals: u64 = sheet.accruals[scene.position..].iter().sum();
+        let right = premium_ceiling(sheet, scene.position, count) as i128;
+        let found = i128::from(accruals) + scene.work_out(units)?;
+        same(found, right, "a ceiling")?;
         if scene.step == 0 {
             return Ok(());
         }
         let right = premium_payment(sheet, tranche, scene.step, count) as i128;
-        same(scene.work_out(paid)?, right, "P(i, k)")
+        same(scene.work_out(paid)?, right, "P(i, k)")?;
+        if count == sheet.names {
+            return Ok(());
+        }
+        let right = elapsed_payment(sheet, tranche, scene.step, count) as i128;
+        same(scene.work_out(earned)?, right, "E(i, k)")
     })
 }
 

@@ -1,9 +1,9 @@
 //! The page's limits, tried on both sides.
 
-use super::{between, cells, named, same, says, size, table, whole, Found};
+use super::{between, cells, entries, named, same, says, size, table, whole, Found};
 use crate::arithmetic::{work_out, Ratio};
 use crate::common::{plain_sheet, set_starts};
-use lavroudem_model::commands::{encode, COMMANDS, CUT, OPEN, POOL};
+use lavroudem_model::commands::{encode, COMMANDS, CUT, ELAPSED, OPEN, POOL};
 use lavroudem_model::deck::{listing, MAX_DECK};
 use lavroudem_model::refusal::Refusal;
 use lavroudem_model::sheet::{check, Sheet, MAX_TRANCHES};
@@ -27,6 +27,26 @@ fn both_sides(least: i128, most: i128, refusal: u8, change: &dyn Fn(u64) -> Shee
         }
     }
     Ok(())
+}
+
+/// The second step is no premium date, and the third pays for longer than the
+/// first.
+fn with_a_date_ahead(fraction: u64) -> Sheet {
+    with(|sheet| {
+        sheet.accruals = vec![1_000_000, 0, 3_000_000, 5_000_000];
+        sheet.elapsed[1] = fraction;
+    })
+}
+
+/// The sizes of a sheet, and for the second step of the one above: a(d).
+fn limit(sheet: &Sheet, name: &str, places: &[Ratio]) -> Option<Ratio> {
+    let dated = with_a_date_ahead(0);
+    let number = match (name, places) {
+        ("d", []) => dated.next_premium_date(2) as i128,
+        ("a", [step]) => *dated.accruals.get(step.as_whole()? as usize - 1)? as i128,
+        _ => return size(sheet, name),
+    };
+    Some(Ratio::whole(number))
 }
 
 fn with(change: impl FnOnce(&mut Sheet)) -> Sheet {
@@ -71,7 +91,7 @@ fn by_periods(periods: u64) -> Sheet {
 type List<'a> = (&'a str, fn(&Sheet) -> usize, &'a dyn Fn(u64) -> Sheet);
 
 fn limits_of_lists(page: &str) -> Found {
-    let lists: [List; 6] = [
+    let lists: [List; 7] = [
         ("attachments", |sheet| sheet.attachments.len(), &|value| {
             with(|sheet| sheet.attachments[if value < 2 { 0 } else { 2 }] = value)
         }),
@@ -90,6 +110,7 @@ fn limits_of_lists(page: &str) -> Found {
         ("accruals", |sheet| sheet.accruals.len(), &|value| {
             with(|sheet| sheet.accruals[1] = value)
         }),
+        ("elapsed", |sheet| sheet.elapsed.len(), &with_a_date_ahead),
         ("coupons", |sheet| sheet.coupons.len(), &|value| {
             with(|sheet| sheet.coupons[1] = value)
         }),
@@ -101,7 +122,8 @@ fn limits_of_lists(page: &str) -> Found {
         same(name, list, "a list")?;
         let refusal = named(refusal.trim_matches('`'))?.number();
         let mut sheet = plain_sheet(3, 4, 2);
-        let most = work_out(most, &|name, _| size(&sheet, name)).and_then(Ratio::as_whole);
+        let most = work_out(most, &|name, places| limit(&sheet, name, places));
+        let most = most.and_then(Ratio::as_whole);
         let most = most.ok_or(format!("no limit of {list}"))?;
         both_sides(whole(least)?, most, refusal, change)?;
         set_starts(&mut sheet, &[1, 4]);
@@ -113,8 +135,9 @@ fn limits_of_lists(page: &str) -> Found {
 
 pub fn limits_of_a_deck_are_the_models(page: &str) -> Found {
     let rows = table(page, "| In a deck | Most | One more |")?;
-    same(rows.len(), 6, "limits of a deck")?;
-    for (row, command) in rows.iter().zip(COMMANDS.iter().take(5)) {
+    same(rows.len(), 7, "limits of a deck")?;
+    let entries = COMMANDS.iter().filter(|command| command.is_entry());
+    for (row, command) in rows.iter().zip(entries) {
         let [word, most, refusal] = cells(row)?;
         same(word, command.word, "an entry")?;
         same(named(refusal.trim_matches('`'))?, Refusal::TooMany, word)?;
@@ -124,7 +147,7 @@ pub fn limits_of_a_deck_are_the_models(page: &str) -> Found {
         let line = format!("deck {} {}\n", Refusal::TooMany.number(), full.len());
         same(listing(&[full, entry].concat()), line.into_bytes(), word)?;
     }
-    let [bytes, most, refusal] = cells(&rows[5])?;
+    let [bytes, most, refusal] = cells(&rows[6])?;
     same((bytes, refusal), ("bytes", "`20 too many`"), "bytes")?;
     same(whole(most)?, MAX_DECK as i128, bytes)?;
     let line = String::from_utf8(listing(&[OPEN].repeat(MAX_DECK + 1))).unwrap();
@@ -133,15 +156,21 @@ pub fn limits_of_a_deck_are_the_models(page: &str) -> Found {
     short_decks_are_the_models(page)
 }
 
-/// No pool, and more cuts than its tranches have points.
+/// No pool, more cuts than its tranches have points, and fewer fractions than
+/// steps.
 fn short_decks_are_the_models(page: &str) -> Found {
     let cuts = MAX_TRANCHES + 1;
     let pool = encode(POOL, &[3, 1, 2, 0, 0]);
+    let one_of_four = [entries(&plain_sheet(3, 4, 2)), encode(ELAPSED, &[0])];
     let decks = [
         (vec![], "a call that brings the sheet gets".into()),
         (
             [pool, encode(CUT, &[1]).repeat(cuts)].concat(),
             format!("a deck with {cuts} cuts for 2 tranches is read on, and its calls get"),
+        ),
+        (
+            one_of_four.concat(),
+            "one that enters some needs m in all: with fewer or more its calls get".into(),
         ),
     ];
     for (deck, said) in decks {

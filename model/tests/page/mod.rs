@@ -7,7 +7,7 @@ pub mod orders;
 pub mod worked;
 
 use crate::arithmetic::{decimal, Ratio};
-use lavroudem_model::commands::{encode, POOL};
+use lavroudem_model::commands::{encode, ELAPSED, POOL};
 use lavroudem_model::refusal::Refusal;
 use lavroudem_model::sheet::Sheet;
 
@@ -114,7 +114,8 @@ pub fn size(sheet: &Sheet, name: &str) -> Option<Ratio> {
     Some(Ratio::whole(number as i128))
 }
 
-/// The commands that enter a sheet of one period.
+/// The commands that enter a sheet of one period. Fractions that are all zero
+/// need none.
 pub fn entries(sheet: &Sheet) -> Vec<u8> {
     let [names, steps, tranches] = [sheet.names, sheet.steps, sheet.tranches].map(|n| n as u64);
     let mut deck = encode(
@@ -127,5 +128,9 @@ pub fn entries(sheet: &Sheet) -> Vec<u8> {
     let steps = sheet.discounts.iter().zip(&sheet.accruals);
     deck.extend(steps.flat_map(|(&discount, &accrual)| encode(4, &[discount, accrual])));
     deck.extend(sheet.coupons.iter().flat_map(|&rate| encode(5, &[rate])));
+    if sheet.elapsed.iter().any(|&fraction| fraction != 0) {
+        let fractions = sheet.elapsed.iter();
+        deck.extend(fractions.flat_map(|&fraction| encode(ELAPSED, &[fraction])));
+    }
     deck
 }

@@ -121,7 +121,7 @@ fn stopped(numbers: &[u8]) -> Option<u8> {
         deck.pop();
     }
     if numbers.contains(&18) {
-        deck.push(0x0D);
+        deck.push(0x0E);
     }
     stop_or_answer(&deck)
 }
@@ -154,8 +154,11 @@ pub fn orders_are_the_models(page: &str) -> Found {
     let of_a_call = faults(Call::Forward).into_keys();
     // A deck has no other starts than the one.
     let of_a_deck = of_a_call.filter(|&number| number != Refusal::Periods.number());
-    let in_a_deck: Vec<u8> = of_a_deck.chain([14]).collect();
-    same(order(&rows[7])?, in_a_deck, rows[7][0])?;
+    let mut in_a_deck: Vec<u8> = of_a_deck.chain([14]).collect();
+    in_a_deck.sort();
+    let mut sorted = order(&rows[7])?;
+    sorted.sort();
+    same(sorted, in_a_deck, rows[7][0])?;
     in_order(rows[7][0], &order(&rows[7])?, &refused_in_a_deck)?;
     same(
         (rows[8][0], order(&rows[8])?),

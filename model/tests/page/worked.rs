@@ -3,7 +3,8 @@
 use super::{blocks, ensure, entries, same, says, section, Found};
 use crate::arithmetic::{commas, work_out_plain, Ratio};
 use lavroudem_model::cash::{
-    outstanding, pool_loss, premium_payment, recovered, tranche_loss, tranche_recovery,
+    elapsed_payment, outstanding, pool_loss, premium_payment, recovered, tranche_loss,
+    tranche_recovery,
 };
 use lavroudem_model::commands::COMMANDS;
 use lavroudem_model::deck::listing;
@@ -29,7 +30,16 @@ fn three_names() -> Sheet {
         hazards: vec![100_000_000, 200_000_000, 400_000_000],
         discounts: vec![950_000_000],
         accruals: vec![250_000_000],
+        elapsed: vec![0],
         coupons: vec![2_000_000, 500_000],
+    }
+}
+
+/// The sheet of 'Three names with a fraction'.
+fn three_names_earned() -> Sheet {
+    Sheet {
+        elapsed: vec![250_000_000],
+        ..three_names()
     }
 }
 
@@ -57,6 +67,13 @@ const ON_TWO_PERIODS: &str = "p(1, 0); p(2, 0); p(3, 0); p(2, 1); p(3, 1); L(1);
     Y; D(2, 0) of the index; Y; D(2, 1) of the index; Y; D(1, 0) of the index; Y; D(1, 1) of the index; \
     Y; D(0, 0) of the index; Y; D(0, 1) of the index; Q(2, 0); Q(2, 1); Q(2, 2); Q(3, 0); Q(3, 1); Q(3, 2); \
     exact D(0, 0) of the index; exact A(0, 0) of the index; A(0, 0) of the index";
+
+const ON_THE_WORKED_DECK_EARNED: &str = "E(1, 0) of tranche 0; E(2, 0) of tranche 0; \
+    E(2, 1) of tranche 0; Y; A(1, 0) of tranche 0; Y; A(1, 1) of tranche 0; Y; A(0, 0) of tranche 0; \
+    exact A(0, 0) of tranche 0; W(0, 0) of tranche 0";
+
+const ON_THREE_NAMES_EARNED: &str = "P(1, 1) of tranche 0; E(1, 0) of tranche 0; \
+    E(1, 1) of tranche 0; Y; A(0, 1) of tranche 0; exact A(0, 1) of tranche 0";
 
 const ON_THREE_NAMES: &str = "L(1); L(2); M(1) of tranche 0; M(2) of tranche 0; O(1) of tranche 0; \
     Z(1); O(1) of the index; Y; D(0, 0) of the index; exact D(0, 0) of the index; P(1, 0) of tranche 0; \
@@ -87,6 +104,16 @@ pub fn worked_arithmetic_is_right(page: &str) -> Found {
             worked::two_periods(),
             ON_TWO_PERIODS,
         ),
+        (
+            "### Premium up to a default: the worked deck with fractions",
+            worked::earned(),
+            ON_THE_WORKED_DECK_EARNED,
+        ),
+        (
+            "### Three names with a fraction: rounded apart",
+            three_names_earned(),
+            ON_THREE_NAMES_EARNED,
+        ),
     ];
     for (heading, sheet, figures) in parts {
         let mut known = known_numbers(&sheet);
@@ -110,12 +137,13 @@ fn known_numbers(sheet: &Sheet) -> BTreeSet<i128> {
         &sheet.hazards,
         &sheet.discounts,
         &sheet.accruals,
+        &sheet.elapsed,
         &sheet.coupons,
     ];
     for &number in lists.into_iter().flatten().chain([&sheet.recovery]) {
         known.extend([i128::from(number), b - i128::from(number)]);
     }
-    for name in ["L", "Z", "M", "T", "O", "P", "D", "A", "W", "J", "Q"] {
+    for name in ["L", "Z", "M", "T", "O", "P", "E", "D", "A", "W", "J", "Q"] {
         for position in 0..=sheet.steps {
             for count in 0..=sheet.names {
                 let at = |tranche| figure(sheet, name, (position, tranche, count));
@@ -219,6 +247,7 @@ pub fn figure(sheet: &Sheet, name: &str, (i, j, k): (usize, usize, usize)) -> Op
         "T" => tranche_recovery(sheet, j, k) as i128,
         "O" => outstanding(sheet, j, k) as i128,
         "P" if i > 0 => premium_payment(sheet, j, i, k) as i128,
+        "E" if i > 0 && k < sheet.names => elapsed_payment(sheet, j, i, k) as i128,
         "D" => default_leg(sheet, &rows(), j, k) as i128,
         "A" => premium_leg(sheet, &rows(), j, k) as i128,
         "W" => net_value(sheet, &rows(), j, k),
@@ -307,6 +336,20 @@ pub fn two_periods_are_described(page: &str) -> Found {
         format!("Two names, three steps, recovery {recovery}, one tranche of {tranche}."),
         format!("Starts {starts}; hazards {first} in the first period and {second} in the second."),
         format!("All discounts are one, and only step {date} is a premium date, for a year."),
+    ];
+    said.iter().try_for_each(|said| says(page, said))
+}
+
+/// What is said of the two sheets with fractions, and of what the first prints.
+pub fn fractions_are_described(page: &str) -> Found {
+    let sheet = worked::earned();
+    let at_root = |name| figure(&sheet, name, (0, 0, 0)).unwrap();
+    let [d, a, w] = ["D", "A", "W"].map(at_root);
+    let [two, one] = [&sheet, &three_names_earned()].map(|sheet| list(&sheet.elapsed, ", "));
+    let said = [
+        format!("The sheet of the worked deck with the elapsed fractions {two}:"),
+        format!("`value 0 0` at the root prints `value 0 {d} {a} {w}`."),
+        format!("The sheet of three names with the elapsed fraction {one}, the accrual"),
     ];
     said.iter().try_for_each(|said| says(page, said))
 }
