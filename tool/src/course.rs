@@ -1,6 +1,6 @@
 //! A deck command by command, and where it stops.
 
-use lavroudem_model::commands::{decode, Decoded, COUPON, CUT, HAZARD, POOL, STEP};
+use lavroudem_model::commands::{decode, Decoded, COUPON, CUT, ELAPSED, HAZARD, POOL, STEP};
 use lavroudem_model::deck::MAX_DECK;
 use lavroudem_model::refusal::{refuse_if, Refusal};
 use lavroudem_model::sheet::{MAX_NAMES, MAX_STEPS, MAX_TRANCHES};
@@ -30,7 +30,7 @@ pub fn most_entries(command: u8) -> usize {
         POOL => 1,
         CUT | COUPON => MAX_TRANCHES + 1,
         HAZARD => MAX_NAMES,
-        STEP => MAX_STEPS,
+        STEP | ELAPSED => MAX_STEPS,
         _ => usize::MAX,
     }
 }
@@ -41,7 +41,8 @@ pub fn course(deck: &[u8]) -> Course {
         commands: Vec::new(),
         stop: None,
     };
-    let mut entered = [0; COUPON as usize + 1];
+    // By the command's byte.
+    let mut entered = [0; 256];
     let mut offset = 0;
     // The commands of an oversized deck are not run.
     if deck.len() > MAX_DECK {

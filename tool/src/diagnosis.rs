@@ -1,14 +1,14 @@
 //! Why a sheet was refused, with the place in the file.
 //!
 //! The engine's refusal is the verdict. This stands beside it: for a call
-//! that the listing shows as refused by 1 to 8 it names what breaks that
+//! that the listing shows as refused by 1 to 8 or 21 it names what breaks that
 //! limit, and for a deck that stopped, what stands there. Of all else it says
 //! nothing.
 
 use crate::course::{most_entries, Course, Placed, Stop};
 use crate::listing::Answer;
 use crate::text::Lines;
-use lavroudem_model::commands::{Decoded, COMMANDS, COUPON, CUT, HAZARD, POOL, STEP};
+use lavroudem_model::commands::{Decoded, COMMANDS, COUPON, CUT, ELAPSED, HAZARD, POOL, STEP};
 use lavroudem_model::deck::MAX_DECK;
 use lavroudem_model::refusal::Refusal;
 use lavroudem_model::sheet::{B, MAX_ACCRUAL_SUM, MAX_COUPON, MAX_NAMES, MAX_STEPS, MAX_TRANCHES};
@@ -73,6 +73,13 @@ pub enum Fault {
     LastAccrual {
         step: usize,
     },
+    /// The next premium date, and its accrual.
+    AboveAccrual {
+        place: usize,
+        number: u64,
+        accrual: u64,
+        date: usize,
+    },
     Stop(StopFault),
 }
 
@@ -126,6 +133,16 @@ impl fmt::Display for Fault {
             Fault::LastAccrual { step } => {
                 write!(out, "the accrual of step {step}, the last, is 0")
             }
+            Fault::AboveAccrual {
+                place,
+                number,
+                accrual,
+                date,
+            } => write!(
+                out,
+                "elapsed {place} is {number}, above {accrual}, \
+                 the accrual of the next premium date, step {date}"
+            ),
             Fault::Stop(fault) => fault.fmt(out),
         }
     }
@@ -158,6 +175,7 @@ struct Draft {
     hazards: Vec<Entry>,
     discounts: Vec<Entry>,
     accruals: Vec<Entry>,
+    elapsed: Vec<Entry>,
     coupons: Vec<Entry>,
 }
 
@@ -173,6 +191,7 @@ impl Draft {
                 self.discounts.push((offset, discount));
                 self.accruals.push((offset, accrual));
             }
+            (ELAPSED, &[fraction]) => self.elapsed.push((offset, fraction)),
             (COUPON, &[rate]) => self.coupons.push((offset, rate)),
             _ => {}
         }
@@ -198,18 +217,22 @@ impl Draft {
             Refusal::Hazard => above("hazard", &self.hazards, ONE),
             Refusal::Discount => discounts(&self.discounts),
             Refusal::Accrual => accruals(&self.accruals),
+            Refusal::Elapsed => elapsed(&self.elapsed, &self.accruals),
             Refusal::Coupon => above("coupon", &self.coupons, MAX_COUPON as u64),
             _ => vec![],
         }
     }
 
     /// The lists that are short, told at the pool that asks for more, or
-    /// long, told at the first entry too many.
+    /// long, told at the first entry too many. No elapsed fraction at all is
+    /// not too few.
     fn lengths(&self, pool: usize, names: u64, steps: u64, tranches: u64) -> Vec<Cause> {
+        let fractions = if self.elapsed.is_empty() { 0 } else { steps };
         let lists = [
             ("cuts", &self.cuts, tranches + 1),
             ("hazards", &self.hazards, names),
             ("steps", &self.discounts, steps),
+            ("elapsed", &self.elapsed, fractions),
             ("coupons", &self.coupons, tranches + 1),
         ];
         let cause = |(list, entries, asked): (&'static str, &Vec<Entry>, u64)| {
@@ -295,7 +318,35 @@ fn accruals(entries: &[Entry]) -> Vec<Cause> {
     causes
 }
 
-/// What the listing refused by 1 to 8, and where the deck stopped.
+/// The fractions above the accrual of the next premium date, at their step or
+/// after it.
+fn elapsed(fractions: &[Entry], accruals: &[Entry]) -> Vec<Cause> {
+    let mut causes = Vec::new();
+    for (place, &(offset, number)) in (1..).zip(fractions) {
+        let mut dates = (1..).zip(accruals).skip(place - 1);
+        let next = dates.find(|&(_, &(_, accrual))| accrual != 0);
+        let Some((date, &(_, accrual))) = next else {
+            break; // 7 comes before: the last step is a premium date
+        };
+        let fault = Fault::AboveAccrual {
+            place,
+            number,
+            accrual,
+            date,
+        };
+        if number > accrual {
+            causes.push(Cause { offset, fault });
+        }
+    }
+    causes
+}
+
+/// Those that a sheet meets by its own figures, and a deck can have.
+fn is_of_the_sheet(refusal: Refusal) -> bool {
+    refusal.number() <= Refusal::Coupon.number() || refusal == Refusal::Elapsed
+}
+
+/// What the listing refused by 1 to 8 or 21, and where the deck stopped.
 pub fn findings(deck: &[u8], course: &Course, answers: &[Answer]) -> Vec<Finding> {
     let mut findings: Vec<Finding> = Vec::new();
     let mut draft = Draft::default();
@@ -311,7 +362,7 @@ pub fn findings(deck: &[u8], course: &Course, answers: &[Answer]) -> Vec<Finding
         let Some(&Err(refusal)) = answers.next() else {
             continue;
         };
-        if refusal.number() > Refusal::Coupon.number() {
+        if !is_of_the_sheet(refusal) {
             continue;
         }
         match findings.last_mut() {

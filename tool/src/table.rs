@@ -253,7 +253,9 @@ fn in_words(refusal: Refusal) -> String {
 fn explanation(refusal: Refusal) -> &'static str {
     match refusal {
         Refusal::Pool => "names 1 to 125, steps 1 to 3650, tranches 1 to 8",
-        Refusal::Length => "too few or too many cuts, hazards, steps or coupons for the pool",
+        Refusal::Length => {
+            "too few or too many cuts, hazards, steps, elapsed or coupons for the pool"
+        }
         Refusal::Recovery => "the recovery is above 1000000000",
         Refusal::Attachments => "the cuts do not rise, or one is above 1000000000",
         Refusal::Hazard => "a hazard is above 1000000000",
@@ -272,6 +274,7 @@ fn explanation(refusal: Refusal) -> &'static str {
         Refusal::Unknown => "no command has this byte; the deck is read no further",
         Refusal::CutShort => "the deck ends within a command",
         Refusal::TooMany => "a second pool, a list too long, or a deck above 65536 bytes",
+        Refusal::Elapsed => "an elapsed fraction is above the accrual of the next premium date",
         Refusal::Periods => "not met by a deck, whose one period starts at step 1",
     }
 }

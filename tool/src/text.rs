@@ -4,7 +4,7 @@
 //! `pool 2 2 1 400000000 7`. `#` starts a comment; empty lines count for
 //! nothing. `x 90` at the end of a line repeats its command 90 times.
 //!
-//! Any bytes can be written as `bytes 0d ff`, in hexadecimal. That is how the
+//! Any bytes can be written as `bytes fe ff`, in hexadecimal. That is how the
 //! disassembler writes what is no command: from an unknown byte or a command
 //! cut short on, a deck is read no further. So every deck has a text, and the
 //! text gives the same deck again.

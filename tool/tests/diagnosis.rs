@@ -1,7 +1,7 @@
 //! The diagnosis beside the engine's verdict: a cause that is really so for
-//! every refusal 1 to 8 and every stop, and no word of anything else.
+//! every refusal 1 to 8 or 21 and every stop, and no word of anything else.
 
-use lavroudem_model::commands::{decode, COUPON, CUT, HAZARD, POOL, STEP};
+use lavroudem_model::commands::{decode, COUPON, CUT, ELAPSED, HAZARD, POOL, STEP};
 use lavroudem_model::deck::{listing, MAX_DECK};
 use lavroudem_model::decks;
 use lavroudem_model::random::Random;
@@ -9,7 +9,7 @@ use lavroudem_model::refusal::Refusal;
 use lavroudem_tool::course::course;
 use lavroudem_tool::diagnosis::{findings, told, Cause, Fault, Finding, StopFault};
 use lavroudem_tool::listing::read;
-use lavroudem_tool::text::{assemble_with_lines, Assembled, Lines};
+use lavroudem_tool::text::{assemble, assemble_with_lines, Assembled, Lines};
 
 fn found(deck: &[u8]) -> Vec<Finding> {
     let course = course(deck);
@@ -183,6 +183,53 @@ fn the_accruals_pass_their_sum_at_a_step() {
     assert_eq!(with_steps(11, steps), last);
 }
 
+/// Ten lines of a sheet with premium dates at steps 3 and 5.
+const DATES: &str = "pool 1 5 1 0 7\ncut 0\ncut 1\nhazard 1\nstep 1 0 x 2\n\
+                     step 1 250000000\nstep 1 0\nstep 1 500000000\ncoupon 1 x 2\nissue 7\n";
+
+fn with_elapsed(fractions: &str) -> String {
+    explained(&format!("{DATES}{fractions}\nopen\n"))
+}
+
+/// A step that is a premium date goes by its own accrual.
+#[test]
+fn an_elapsed_fraction_has_its_premium_date() {
+    let above = "elapsed 0\nelapsed 250000001\nelapsed 4294967295\nelapsed 500000001 x 2";
+    let told = "desk: line 15: open was refused 21 (elapsed)\n\
+                desk: line 12: elapsed 2 is 250000001, above 250000000, \
+                the accrual of the next premium date, step 3\n\
+                desk: line 13: elapsed 3 is 4294967295, above 250000000, \
+                the accrual of the next premium date, step 3\n\
+                desk: line 14: elapsed 4 is 500000001, above 500000000, \
+                the accrual of the next premium date, step 5\n\
+                desk: line 14: elapsed 5 is 500000001, above 500000000, \
+                the accrual of the next premium date, step 5\n";
+    assert_eq!(with_elapsed(above), told);
+    let highest = "elapsed 250000000 x 3\nelapsed 500000000 x 2";
+    assert_eq!(with_elapsed(highest), "");
+}
+
+/// There are as many as steps, or none.
+#[test]
+fn elapsed_fractions_are_counted() {
+    let short = "desk: line 12: open was refused 2 (length)\ndesk: line 1: elapsed: 3 of 5\n";
+    assert_eq!(with_elapsed("elapsed 0 x 3"), short);
+    let long = "desk: line 13: open was refused 2 (length)\ndesk: line 12: elapsed: 6 of 5\n";
+    assert_eq!(with_elapsed("elapsed 0 x 5\nelapsed 0"), long);
+    assert_eq!(with_elapsed("elapsed 0 x 5"), "");
+    assert_eq!(with_elapsed(""), "");
+    let told = explained("pool 2 2 1 0 7\nelapsed 0\nissue 7\nopen\n");
+    let lists: Vec<&str> = told.lines().skip(1).collect();
+    let expected = [
+        "desk: line 1: cuts: 0 of 2",
+        "desk: line 1: hazards: 0 of 2",
+        "desk: line 1: steps: 0 of 2",
+        "desk: line 1: elapsed: 1 of 2",
+        "desk: line 1: coupons: 0 of 2",
+    ];
+    assert_eq!(lists, expected);
+}
+
 /// One explanation for all calls on the same sheet, and not without end.
 #[test]
 fn what_is_the_same_is_told_once() {
@@ -206,7 +253,7 @@ fn what_is_the_same_is_told_once() {
 }
 
 /// A text, the refusal that stops its deck, the offset and the cause.
-const STOPS: [(&str, &str, usize, &str); 7] = [
+const STOPS: [(&str, &str, usize, &str); 9] = [
     (
         "open\nbytes ff",
         "18 (unknown)",
@@ -244,6 +291,18 @@ const STOPS: [(&str, &str, usize, &str); 7] = [
         "line 3: one step more than 3650",
     ),
     (
+        "elapsed 1 x 3650\n\nelapsed 0",
+        "20 (too many)",
+        18250,
+        "line 3: one elapsed more than 3650",
+    ),
+    (
+        "open\nbytes 0d 01 00",
+        "19 (cut short)",
+        1,
+        "line 2: the deck ends in `elapsed`, after 3 of 5 bytes",
+    ),
+    (
         "open x 65536\nopen\nopen",
         "20 (too many)",
         65536,
@@ -263,12 +322,27 @@ fn a_stop_has_its_line_and_its_offset() {
 
 #[test]
 fn a_binary_deck_has_offsets() {
-    let deck = [0x08, 0x0D];
+    let deck = [0x08, 0xFE];
     let told = told("desk", &Lines::default(), &found(&deck));
     let expected = "desk: byte 0: open was refused 1 (pool)\n\
                     desk: byte 0: no pool comes before this call\n\
                     desk: byte 1: the deck stops at byte 1: refused 18 (unknown)\n\
-                    desk: byte 1: no command has the byte 0D\n";
+                    desk: byte 1: no command has the byte FE\n";
+    assert_eq!(told, expected);
+}
+
+#[test]
+fn an_elapsed_fraction_of_a_binary_deck_has_its_offset() {
+    let sheet = assemble(DATES).unwrap();
+    let fractions = assemble("elapsed 250000001\nelapsed 0 x 4\nopen").unwrap();
+    let deck = [&sheet[..], &fractions].concat();
+    let told = told("desk", &Lines::default(), &found(&deck));
+    let (open, first) = (sheet.len() + 25, sheet.len());
+    let expected = format!(
+        "desk: byte {open}: open was refused 21 (elapsed)\n\
+         desk: byte {first}: elapsed 1 is 250000001, above 250000000, \
+         the accrual of the next premium date, step 3\n"
+    );
     assert_eq!(told, expected);
 }
 
@@ -337,6 +411,9 @@ impl Brought<'_> {
             "cuts" => (CUT, self.pool(2).unwrap() + 1),
             "hazards" => (HAZARD, self.pool(0).unwrap()),
             "steps" => (STEP, self.pool(1).unwrap()),
+            // None at all is not too few.
+            "elapsed" if found > 0 => (ELAPSED, self.pool(1).unwrap()),
+            "elapsed" => return false,
             _ => (COUPON, self.pool(2).unwrap() + 1),
         };
         self.list(kind, 0).len() == found && wanted == asked as u64
@@ -352,6 +429,15 @@ impl Brought<'_> {
             _ => return false,
         };
         self.list(kind, operand)[place - 1] == number && number > limit
+    }
+
+    /// A fraction above the accrual of a date, which is the next one.
+    fn passes_its_date(&self, place: usize, number: u64, accrual: u64, date: usize) -> bool {
+        let accruals = self.list(STEP, 1);
+        let next = date >= place && accruals[place - 1..date - 1].iter().all(|&a| a == 0);
+        let its_own = accrual != 0 && accruals[date - 1] == accrual;
+        let entered = self.list(ELAPSED, 0)[place - 1] == number;
+        next && its_own && entered && number > accrual
     }
 
     /// The causes that are not of one figure and its highest.
@@ -370,24 +456,37 @@ impl Brought<'_> {
                 let accruals = self.list(STEP, 1);
                 accruals.len() == step && accruals[step - 1] == 0
             }
+            (
+                Refusal::Elapsed,
+                &Fault::AboveAccrual {
+                    place,
+                    number,
+                    accrual,
+                    date,
+                },
+            ) => self.passes_its_date(place, number, accrual, date),
             _ => false,
         }
     }
 }
 
-/// The calls that a listing shows as refused by 1 to 8.
+/// The refusals of a sheet that a deck can meet.
+const OF_THE_SHEET: [usize; 9] = [1, 2, 3, 4, 5, 6, 7, 8, 21];
+
+/// The calls that a listing shows as refused by 1 to 8 or 21.
 fn refused_by_the_sheet(deck: &[u8]) -> Vec<usize> {
     let numbers = String::from_utf8(listing(deck)).unwrap();
     let calls = numbers.lines().filter(|line| !line.starts_with("deck "));
     let number = |line: &str| line.split(' ').nth(1).unwrap().parse().unwrap();
     let numbers = calls.map(number);
-    numbers.filter(|number| (1..=8).contains(number)).collect()
+    let of_the_sheet = |number: &usize| OF_THE_SHEET.contains(number);
+    numbers.filter(of_the_sheet).collect()
 }
 
 #[test]
 fn every_refusal_of_a_sheet_has_a_cause_that_is_so() {
     let mut random = Random::new(0xD1A6_0001);
-    let mut met = [0; 9];
+    let mut met = [0; 22];
     for _ in 0..20_000 {
         let deck = decks::any(&mut random);
         let numbers = refused_by_the_sheet(&deck);
@@ -410,7 +509,8 @@ fn every_refusal_of_a_sheet_has_a_cause_that_is_so() {
         }
         assert_eq!(explained, numbers);
     }
-    assert!(met[1..].iter().all(|&count| count > 0), "{met:?}");
+    let each = OF_THE_SHEET.into_iter().all(|number| met[number] > 0);
+    assert!(each, "{met:?}");
 }
 
 fn stands_there(deck: &[u8], finding: &Finding, fault: &StopFault) -> bool {
@@ -421,7 +521,10 @@ fn stands_there(deck: &[u8], finding: &Finding, fault: &StopFault) -> bool {
             number == 19 && deck.len() - finding.offset == *found
         }
         StopFault::SecondPool => number == 20 && deck[finding.offset] == POOL,
-        StopFault::FullList { .. } => number == 20 && deck[finding.offset] <= COUPON,
+        StopFault::FullList { .. } => {
+            let lists = [CUT, HAZARD, STEP, COUPON, ELAPSED];
+            number == 20 && lists.contains(&deck[finding.offset])
+        }
         StopFault::LongDeck => number == 20 && deck.len() > MAX_DECK,
     }
 }

@@ -3,6 +3,7 @@
 use lavroudem_model::deck::listing;
 use lavroudem_model::decks;
 use lavroudem_model::random::Random;
+use lavroudem_model::refusal::Refusal;
 use lavroudem_tool::course::{course, Course};
 use lavroudem_tool::listing::{calls, read, Answer};
 use lavroudem_tool::text::assemble;
@@ -61,7 +62,7 @@ fn a_line_of_no_listing_is_a_mistake() {
         assert_eq!(reason("open", &format!("{line}\n")), no_line(line));
     }
     assert_eq!(reason("open", "open 0\r\n"), no_line("open 0\\r"));
-    for number in [21, 18, -1, 25] {
+    for number in [22, 18, -1, 25] {
         let refused = format!("line 1: no call of a deck is refused {number}");
         assert_eq!(reason("open", &format!("open {number}\n")), refused);
     }
@@ -70,6 +71,15 @@ fn a_line_of_no_listing_is_a_mistake() {
     assert_eq!(reason("value 0 0", "value 0\n"), figures("value"));
     assert_eq!(reason("delta 0 0", "delta 0 1 2\n"), figures("delta"));
     assert_eq!(reason("open", "open 0 1\n"), figures("open"));
+}
+
+/// By the sheet that the deck has entered, so 21 among them.
+#[test]
+fn calls_are_refused_by_their_sheet() {
+    let deck = assemble(&format!("{SHEET}elapsed 1 x 9\nopen")).unwrap();
+    let course = course(&deck);
+    assert_eq!(read(&course, b"open 21\n"), Ok(vec![Err(Refusal::Elapsed)]));
+    assert_eq!(calls(&course).count(), 1);
 }
 
 #[test]

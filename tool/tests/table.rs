@@ -104,8 +104,8 @@ fn refusals_come_in_words() {
         row.starts_with("value no. 3 0 - refused 14: off tree ("),
         "{row}"
     );
-    for (place, refusal) in Refusal::ALL[..17].iter().enumerate() {
-        let number = place + 1;
+    let of_calls = Refusal::ALL[..17].iter().chain([&Refusal::Elapsed]);
+    for (number, refusal) in (1..=17).chain([21]).zip(of_calls) {
         let row = last_row("back 3", &format!("back {number}\n"));
         let words = format!("back 3 - refused {number}: {} (", refusal.word());
         assert!(row.starts_with(&words), "{row}");
@@ -141,7 +141,7 @@ fn faults_of_a_deck_have_their_offset() {
             row,
         )
     };
-    let (unknown, _, row) = told(&[0x08, 0x0D, 0x08]);
+    let (unknown, _, row) = told(&[0x08, 0xFE, 0x08]);
     assert!(unknown && row.ends_with(", at byte 1"), "{row}");
     let (_, short, row) = told(&[0x08, 0x08, 0x09, 1]);
     assert!(short && row.ends_with(", at byte 2"), "{row}");

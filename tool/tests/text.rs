@@ -45,12 +45,14 @@ fn worked_deck_to_the_letter() {
 
 #[test]
 fn operands_stand_low_byte_first() {
-    let text = "pool 1 770 4 84281096 9\nforward 770 4\nback 65535\nstep 4294967295 1\n";
+    let text = "pool 1 770 4 84281096 9\nforward 770 4\nback 65535\nstep 4294967295 1\n\
+                elapsed 84281096\n";
     let deck = [
         0x01, 1, 0x02, 0x03, 4, 0x08, 0x07, 0x06, 0x05, 9, //
         0x0C, 0x02, 0x03, 4, //
         0x09, 0xFF, 0xFF, //
-        0x04, 0xFF, 0xFF, 0xFF, 0xFF, 1, 0, 0, 0,
+        0x04, 0xFF, 0xFF, 0xFF, 0xFF, 1, 0, 0, 0, //
+        0x0D, 0x08, 0x07, 0x06, 0x05,
     ];
     assert_eq!(assemble(text), Ok(deck.to_vec()));
     assert_eq!(disassemble(&deck), text);
@@ -103,6 +105,10 @@ fn equal_commands_fold() {
     let deck = assemble(steps).unwrap();
     assert_eq!(deck.len(), 91 * 9);
     assert_eq!(disassemble(&deck), steps);
+    let fractions = "elapsed 0 x 3649\nelapsed 250000000\n";
+    let deck = assemble(fractions).unwrap();
+    assert_eq!(deck.len(), 3_650 * 5);
+    assert_eq!(disassemble(&deck), fractions);
     let opens = disassemble(&[0x08; MAX_DECK + 1]);
     assert_eq!(opens, "open x 65536\nopen\n");
 }
@@ -110,8 +116,9 @@ fn equal_commands_fold() {
 #[test]
 fn what_is_no_command_is_written_as_bytes() {
     // An unknown byte ends the reading, even before what looks like an open.
-    assert_eq!(disassemble(&[0x08, 0x0D, 0x08]), "open\nbytes 0d 08\n");
+    assert_eq!(disassemble(&[0x08, 0xFE, 0x08]), "open\nbytes fe 08\n");
     assert_eq!(disassemble(&[0x09, 0x05]), "bytes 09 05\n");
+    assert_eq!(disassemble(&[0x0D, 1, 0, 0]), "bytes 0d 01 00 00\n");
     let many = disassemble(&[0xFF; 17]);
     let sixteen = "ff ".repeat(16);
     assert_eq!(many, format!("bytes {}\nbytes ff\n", sixteen.trim_end()));
@@ -151,6 +158,13 @@ fn mistakes_have_line_and_reason() {
         ),
         ("issue -1", "number `-1` is not a whole number"),
         ("issue +1", "number `+1` is not a whole number"),
+        ("elapsed", "write `elapsed fraction`; operands found: 0"),
+        ("elapsed 1 2", "write `elapsed fraction`; operands found: 2"),
+        (
+            "elapsed 4294967296",
+            "fraction 4294967296 is too large, at most 4294967295",
+        ),
+        ("elapsed 0.25", "fraction `0.25` is not a whole number"),
         ("step 0.9 0", "discount `0.9` is not a whole number"),
         ("step 1 0 x", repeat),
         ("step 1 0 x 0", repeat),
