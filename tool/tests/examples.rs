@@ -8,7 +8,7 @@ use std::fmt::Write;
 use std::fs;
 use std::path::{Path, PathBuf};
 
-const NAMES: [&str; 3] = ["worked", "five-year", "refusals"];
+const NAMES: [&str; 4] = ["worked", "five-year", "elapsed", "refusals"];
 
 fn root() -> PathBuf {
     Path::new(env!("CARGO_MANIFEST_DIR")).join("..")
@@ -79,6 +79,27 @@ fn refusals_are_those_of_the_comments() {
     let numbers = listing.lines().map(|line| line.split(' ').nth(1).unwrap());
     let met: Vec<&str> = numbers.filter(|&number| number != "0").collect();
     assert_eq!(met, told);
+}
+
+/// The comments tell what each figure would be without the elapsed lines, and
+/// which ones stay.
+#[test]
+fn without_elapsed_fractions_it_is_as_the_comments_tell() {
+    let text = stored("elapsed", "txt");
+    let told = text
+        .lines()
+        .filter_map(|line| line.split("# without them: ").nth(1));
+    let told: Vec<&str> = told.collect();
+    let others = text.lines().filter(|line| !line.starts_with("elapsed "));
+    let others: Vec<&str> = others.collect();
+    let without = listing(&assemble(&others.join("\n")).unwrap());
+    let without = String::from_utf8(without).unwrap();
+    let figures = |listing: &str| listing.lines().skip(3).map(str::to_string).collect();
+    let without: Vec<String> = figures(&without);
+    assert_eq!(without, told);
+    let with: Vec<String> = figures(&stored("elapsed", "listing"));
+    let moved: Vec<bool> = with.iter().zip(&without).map(|(a, b)| a != b).collect();
+    assert_eq!(moved, [true, true, true, false]);
 }
 
 /// The sheet of `five-year` by the formulas of `examples/README.md`.
