@@ -19,6 +19,7 @@ static const uint64_t numbers[LAVROUDEM_NUMBERS(NAMES, STEPS, TRANCHES, PERIODS)
     100000000, 200000000,  /* hazards */
     1000000000, 900000000, /* discounts */
     0, 1000000000,         /* accruals */
+    0, 0,                  /* elapsed */
     1000000, 500000,       /* coupons */
 };
 
@@ -115,7 +116,7 @@ int main(void)
         },
     };
     const size_t laid = lavroudem_lay_out(
-        &desk.sheet, TRANCHES + 1, PERIODS, PERIODS * NAMES, STEPS, STEPS, TRANCHES + 1);
+        &desk.sheet, TRANCHES + 1, PERIODS, PERIODS * NAMES, STEPS, STEPS, STEPS, TRANCHES + 1);
     if (laid != sizeof numbers / sizeof numbers[0]) {
         fputs("the lists have other lengths than the numbers\n", stderr);
         return EXIT_FAILURE;

@@ -25,7 +25,7 @@
  *
  * - money: a unit is one billionth of the pool, LAVROUDEM_ONE is all of it
  * - recovery, hazards and discounts: billionths, LAVROUDEM_ONE is 1
- * - accruals: billionths of a year
+ * - accruals and elapsed fractions: billionths of a year
  * - coupons: thousandths of a basis point a year
  * - default leg: units
  * - premium leg: units, for a coupon of 100 percent a year
@@ -48,13 +48,13 @@ extern "C" {
 
 /*
  * Of this header, raised when a call, a struct or a number in it changes. An
- * archive of another version is not linked: `lavroudem_version_3`, which the
+ * archive of another version is not linked: `lavroudem_version_4`, which the
  * archive of this version alone has, is named by whatever includes this header.
  * `lavroudem_version` answers the archive's version.
  */
-#define LAVROUDEM_VERSION 3
+#define LAVROUDEM_VERSION 4
 uint64_t lavroudem_version(void);
-uint64_t lavroudem_version_3(void);
+uint64_t lavroudem_version_4(void);
 
 #if defined(__has_attribute)
 #if __has_attribute(retain)
@@ -64,7 +64,7 @@ uint64_t lavroudem_version_3(void);
 #ifndef LAVROUDEM_STAYS
 #define LAVROUDEM_STAYS __attribute__((unused, used))
 #endif
-LAVROUDEM_STAYS static uint64_t (*const lavroudem_linked_version)(void) = lavroudem_version_3;
+LAVROUDEM_STAYS static uint64_t (*const lavroudem_linked_version)(void) = lavroudem_version_4;
 
 /* ---- limits */
 
@@ -120,6 +120,7 @@ enum lavroudem_refusal {
     LAVROUDEM_REFUSED_HAZARD = 5, /* one above 1 */
     LAVROUDEM_REFUSED_DISCOUNT = 6, /* one 0 or above 1 */
     LAVROUDEM_REFUSED_ACCRUAL = 7, /* one above 1, their sum above 10, or the last 0 */
+    LAVROUDEM_REFUSED_ELAPSED = 21, /* one above the accrual of the next premium date */
     LAVROUDEM_REFUSED_COUPON = 8, /* one above LAVROUDEM_MAX_COUPON */
     LAVROUDEM_REFUSED_WITHDRAWN = 9, /* by the register */
     LAVROUDEM_REFUSED_UNISSUED = 10, /* by the register */
@@ -143,7 +144,8 @@ static inline const char *lavroudem_word(unsigned refusal)
         "accepted", "pool", "length", "recovery", "cuts", "hazard", "discount", "accrual",
         "coupon", "withdrawn", "unissued", "no walk", "soiled", "out of steps", "off tree",
         "flat hedge", "off scale", "live", "unknown", "cut short", "too many",
-        "", "", "", "", /* 21 to 24 are none */
+        "elapsed",
+        "", "", "", /* 22 to 24 are none */
         "periods",
     };
     return refusal < sizeof words / sizeof words[0] ? words[refusal] : "";
@@ -172,7 +174,7 @@ struct lavroudem_span {
 
 /*
  * A sheet. Its numbers are lent beside it, as one list in which each of its
- * six lists has a span:
+ * seven lists has a span:
  *   attachments  tranches + 1, rising; tranche j lies between entries j and j + 1
  *   starts       1 to LAVROUDEM_MAX_PERIODS, the first 1, rising, none above steps;
  *                entry p is the first step of period p
@@ -180,10 +182,17 @@ struct lavroudem_span {
  *                chance in period p that a step takes k defaults to k + 1
  *   discounts    steps; entry i - 1 brings cash from step i to step i - 1
  *   accruals     steps; entry i - 1 is paid at step i, and 0 if that is no premium date
+ *   elapsed      steps; entry i - 1 is the time since the last premium date that a
+ *                default into step i still pays for, at most the accrual of the next
+ *                premium date, at step i or after it
  *   coupons      tranches + 1, that of the index last
  * The move from step i - 1 to step i goes by the hazards of the period that
  * holds step i, the last one that starts at i or before. Hazards that stay the
  * same throughout are one period: its start is 1. periods.c has two.
+ *
+ * A default into step i brings the premium side the elapsed fraction of that
+ * step times what the default takes off the outstanding nominal. Where it is to
+ * bring nothing, the fractions are 0. elapsed.c has others.
  */
 struct lavroudem_sheet {
     struct lavroudem_pool pool;
@@ -192,12 +201,13 @@ struct lavroudem_sheet {
     struct lavroudem_span hazards;
     struct lavroudem_span discounts;
     struct lavroudem_span accruals;
+    struct lavroudem_span elapsed;
     struct lavroudem_span coupons;
 };
 
 /* The numbers of a sheet that is accepted, and of the largest. */
 #define LAVROUDEM_NUMBERS(names, steps, tranches, periods) \
-    (2 * ((tranches) + 1) + (periods) * ((names) + 1) + 2 * (steps))
+    (2 * ((tranches) + 1) + (periods) * ((names) + 1) + 3 * (steps))
 #define LAVROUDEM_MAX_NUMBERS \
     LAVROUDEM_NUMBERS( \
         LAVROUDEM_MAX_NAMES, LAVROUDEM_MAX_STEPS, LAVROUDEM_MAX_TRANCHES, LAVROUDEM_MAX_PERIODS)
@@ -213,20 +223,23 @@ struct lavroudem_sheet {
  *         100000000, 200000000, 300000000, // hazards, names for each start
  *         900000000,                       // discounts, steps
  *         1000000000,                      // accruals, steps
+ *         500000000,                       // elapsed, steps
  *         1000000, 500000,                 // coupons, tranches + 1
  *     };
  *     struct lavroudem_sheet sheet = {.pool = {3, 1, 1, 400000000, 7}};
- *     size_t length = lavroudem_lay_out(&sheet, 2, 1, 3, 1, 1, 2);
+ *     size_t length = lavroudem_lay_out(&sheet, 2, 1, 3, 1, 1, 1, 2);
  */
 static inline size_t lavroudem_lay_out(
     struct lavroudem_sheet *sheet, size_t attachments, size_t starts, size_t hazards,
-    size_t discounts, size_t accruals, size_t coupons)
+    size_t discounts, size_t accruals, size_t elapsed, size_t coupons)
 {
     struct lavroudem_span *const spans[] = {
         &sheet->attachments, &sheet->starts, &sheet->hazards,
-        &sheet->discounts, &sheet->accruals, &sheet->coupons,
+        &sheet->discounts, &sheet->accruals, &sheet->elapsed, &sheet->coupons,
     };
-    const size_t lengths[] = {attachments, starts, hazards, discounts, accruals, coupons};
+    const size_t lengths[] = {
+        attachments, starts, hazards, discounts, accruals, elapsed, coupons,
+    };
     size_t at = 0;
     for (size_t list = 0; list < sizeof lengths / sizeof lengths[0]; list++) {
         spans[list]->at = at;
@@ -285,7 +298,8 @@ uint8_t lavroudem_withdraw(uint8_t *register_bytes, size_t register_length, uint
  * Starts a walk at the last step, whatever walk is given. Writes zeros to both
  * rows, which may hold anything before. Each row has (tranches + 1) *
  * (names + 1) entries: those of tranche 0 by default count, from 0 to names,
- * then those of tranche 1, and so on, the index last. Refusals 1 to 10 and 25.
+ * then those of tranche 1, and so on, the index last. Refusals 1 to 10, 21 and
+ * 25.
  */
 struct lavroudem_opened lavroudem_open(
     struct lavroudem_walk walk,
@@ -297,7 +311,7 @@ struct lavroudem_opened lavroudem_open(
 
 /*
  * Takes both rows so many steps back, 0 included, and answers the new
- * position. Writes both rows. Refusals 1 to 13 and 25.
+ * position. Writes both rows. Refusals 1 to 13, 21 and 25.
  */
 struct lavroudem_moved lavroudem_back(
     struct lavroudem_walk walk,
@@ -311,7 +325,7 @@ struct lavroudem_moved lavroudem_back(
 /*
  * Answers the default leg, the premium leg and the net value of a tranche,
  * 0 to tranches (the index), at a default count, 0 to names. Writes nothing.
- * Refusals 1 to 12, 14 and 25.
+ * Refusals 1 to 12, 14, 21 and 25.
  */
 struct lavroudem_valued lavroudem_value(
     struct lavroudem_walk walk,
@@ -325,7 +339,8 @@ struct lavroudem_valued lavroudem_value(
 /*
  * Answers how much of the index, in millionths of the whole pool's, hedges
  * the whole tranche against the next default, at a default count below names.
- * Writes nothing. Refusals 1 to 12, 14 to 16 and 25.
+ * On rows as a walk leaves them it is negative only where an elapsed fraction
+ * is not 0. Writes nothing. Refusals 1 to 12, 14 to 16, 21 and 25.
  */
 struct lavroudem_hedged lavroudem_hedge_ratio(
     struct lavroudem_walk walk,
@@ -339,7 +354,7 @@ struct lavroudem_hedged lavroudem_hedge_ratio(
 /*
  * Writes to a row of names + 1 entries the chance, in billionths, of each
  * default count after so many steps from no default. It needs no walk.
- * Refusals 1 to 10, 13 and 25.
+ * Refusals 1 to 10, 13, 21 and 25.
  */
 uint8_t lavroudem_forward(
     struct lavroudem_sheet sheet,
@@ -355,7 +370,7 @@ size_t lavroudem_deck_room(size_t deck_length);
  * Runs a deck on a blank register of its own, writes its listing to the start
  * of `out`, and answers the bytes written. Where `out` is shorter than the
  * room of the deck it writes nothing and answers LAVROUDEM_NO_ROOM. A sheet of
- * a deck has one period.
+ * a deck has one period, and elapsed fractions of 0 if it enters none.
  */
 #define LAVROUDEM_NO_ROOM SIZE_MAX
 size_t lavroudem_run_deck(const uint8_t *deck, size_t deck_length, uint8_t *out, size_t out_length);
@@ -392,14 +407,15 @@ LAVROUDEM_SIZE(lavroudem_span, 16);
 LAVROUDEM_OFFSET(lavroudem_span, at, 0);
 LAVROUDEM_OFFSET(lavroudem_span, length, 8);
 
-LAVROUDEM_SIZE(lavroudem_sheet, 136);
+LAVROUDEM_SIZE(lavroudem_sheet, 152);
 LAVROUDEM_OFFSET(lavroudem_sheet, pool, 0);
 LAVROUDEM_OFFSET(lavroudem_sheet, attachments, 40);
 LAVROUDEM_OFFSET(lavroudem_sheet, starts, 56);
 LAVROUDEM_OFFSET(lavroudem_sheet, hazards, 72);
 LAVROUDEM_OFFSET(lavroudem_sheet, discounts, 88);
 LAVROUDEM_OFFSET(lavroudem_sheet, accruals, 104);
-LAVROUDEM_OFFSET(lavroudem_sheet, coupons, 120);
+LAVROUDEM_OFFSET(lavroudem_sheet, elapsed, 120);
+LAVROUDEM_OFFSET(lavroudem_sheet, coupons, 136);
 
 LAVROUDEM_SIZE(lavroudem_walk, 16);
 LAVROUDEM_OFFSET(lavroudem_walk, open, 0);

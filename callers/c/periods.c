@@ -42,7 +42,7 @@ static void print_spans(const struct lavroudem_sheet *sheet, size_t laid)
 {
     const struct lavroudem_span spans[] = {
         sheet->attachments, sheet->starts, sheet->hazards,
-        sheet->discounts, sheet->accruals, sheet->coupons,
+        sheet->discounts, sheet->accruals, sheet->elapsed, sheet->coupons,
     };
     for (size_t list = 0; list < sizeof spans / sizeof spans[0]; list++) {
         printf("%zu at %zu, ", spans[list].length, spans[list].at);
@@ -117,11 +117,12 @@ int main(void)
             300000000, 400000000,               /* hazards of step 3 */
             1000000000, 1000000000, 1000000000, /* discounts */
             0, 0, 1000000000,                   /* accruals */
+            0, 0, 0,                            /* elapsed */
             1000000, 500000,                    /* coupons */
         },
     };
     const size_t laid = lavroudem_lay_out(
-        &desk.sheet, TRANCHES + 1, PERIODS, PERIODS * NAMES, STEPS, STEPS, TRANCHES + 1);
+        &desk.sheet, TRANCHES + 1, PERIODS, PERIODS * NAMES, STEPS, STEPS, STEPS, TRANCHES + 1);
     print_spans(&desk.sheet, laid);
 
     memset(desk.register_bytes, LAVROUDEM_UNISSUED, sizeof desk.register_bytes);

@@ -18,6 +18,7 @@ static const uint64_t numbers[] = {
     100000000, 200000000, 300000000, 400000000, /* hazards */
     980000000, 970000000, 960000000,            /* discounts */
     250000000, 0, 500000000,                    /* accruals */
+    0, 0, 0,                                    /* elapsed */
     1000000, 500000,                            /* coupons */
 };
 
@@ -49,7 +50,7 @@ static void print_spans(const struct lavroudem_sheet *sheet, size_t laid)
 {
     const struct lavroudem_span spans[] = {
         sheet->attachments, sheet->starts, sheet->hazards,
-        sheet->discounts, sheet->accruals, sheet->coupons,
+        sheet->discounts, sheet->accruals, sheet->elapsed, sheet->coupons,
     };
     for (size_t list = 0; list < sizeof spans / sizeof spans[0]; list++) {
         printf("%zu at %zu, ", spans[list].length, spans[list].at);
@@ -121,10 +122,10 @@ static int told(void)
 int main(void)
 {
     struct desk desk = {.sheet.pool = {NAMES, STEPS, TRANCHES, 400000000, NUMBER}};
-    /* No two lists of a length, which no pool asks for: all six can be told apart. */
-    print_spans(&desk.sheet, lavroudem_lay_out(&desk.sheet, 5, 4, 2, 11, 3, 7));
+    /* No two lists of a length, which no pool asks for: all seven can be told apart. */
+    print_spans(&desk.sheet, lavroudem_lay_out(&desk.sheet, 5, 4, 2, 11, 3, 6, 7));
     const size_t laid = lavroudem_lay_out(
-        &desk.sheet, TRANCHES + 1, PERIODS, PERIODS * NAMES, STEPS, STEPS, TRANCHES + 1);
+        &desk.sheet, TRANCHES + 1, PERIODS, PERIODS * NAMES, STEPS, STEPS, STEPS, TRANCHES + 1);
     print_spans(&desk.sheet, laid);
 
     memset(desk.register_bytes, LAVROUDEM_UNISSUED, sizeof desk.register_bytes);

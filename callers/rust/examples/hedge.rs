@@ -18,6 +18,7 @@ const LISTS: Lists = Lists {
     hazards: &[100_000_000, 200_000_000],
     discounts: &[1_000_000_000, 900_000_000],
     accruals: &[0, 1_000_000_000],
+    elapsed: &[0, 0],
     coupons: &[1_000_000, 500_000],
 };
 

@@ -30,6 +30,7 @@ pub(crate) struct Layout {
     pub(crate) hazards: Span,
     pub(crate) discounts: Span,
     pub(crate) accruals: Span,
+    pub(crate) elapsed: Span,
     pub(crate) coupons: Span,
 }
 
@@ -195,7 +196,8 @@ pub fn withdraw(register: &mut [u8], number: u8) -> Result<(), Refusal> {
 }
 
 /// Starts a walk at the last step, whatever walk is given, and fills both
-/// rows with zeros; they may hold anything before. Refusals 1 to 10 and 25.
+/// rows with zeros; they may hold anything before. Refusals 1 to 10, 21 and
+/// 25.
 #[inline]
 pub fn open(
     walk: Walk,
@@ -225,7 +227,7 @@ pub fn open(
 }
 
 /// Takes both rows so many steps back, 0 included, and gives the new
-/// position. Refusals 1 to 13 and 25.
+/// position. Refusals 1 to 13, 21 and 25.
 #[inline]
 pub fn back(
     walk: Walk,
@@ -256,7 +258,7 @@ pub fn back(
 }
 
 /// What a tranche, 0 to tranches (the index), is worth at a default count, 0
-/// to names. Refusals 1 to 12, 14 and 25.
+/// to names. Refusals 1 to 12, 14, 21 and 25.
 #[inline]
 pub fn value(
     walk: Walk,
@@ -294,8 +296,9 @@ pub fn value(
 }
 
 /// How much of the index, in millionths of the whole pool's, hedges the whole
-/// tranche against the next default, at a default count below names. Refusals
-/// 1 to 12, 14 to 16 and 25.
+/// tranche against the next default, at a default count below names. On rows
+/// as a walk leaves them it is negative only where an elapsed fraction is not
+/// 0. Refusals 1 to 12, 14 to 16, 21 and 25.
 #[inline]
 pub fn hedge_ratio(
     walk: Walk,
@@ -328,7 +331,7 @@ pub fn hedge_ratio(
 }
 
 /// Fills a row with the chance of each default count, 0 to names, after so
-/// many steps from no default, in billionths. Refusals 1 to 10, 13 and 25.
+/// many steps from no default, in billionths. Refusals 1 to 10, 13, 21 and 25.
 #[inline]
 pub fn forward(
     sheet: &Sheet,

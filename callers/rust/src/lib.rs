@@ -19,6 +19,7 @@
 //!     hazards: &[100_000_000, 200_000_000],
 //!     discounts: &[1_000_000_000, 900_000_000],
 //!     accruals: &[0, 1_000_000_000],
+//!     elapsed: &[0, 0],
 //!     coupons: &[1_000_000, 500_000],
 //! };
 //! let sheet = Sheet::new(pool, lists);
@@ -44,8 +45,8 @@
 //! calls as the engine has them, for programs that keep their own rows.
 //!
 //! Units: money is in billionths of the pool; recovery, hazards and discounts
-//! in billionths; accruals in billionths of a year; coupons in thousandths of
-//! a basis point a year; hedge ratios in millionths.
+//! in billionths; accruals and elapsed fractions in billionths of a year;
+//! coupons in thousandths of a basis point a year; hedge ratios in millionths.
 
 mod archive;
 mod kept;
@@ -75,7 +76,7 @@ pub mod lent {
 
 /// The version of the archive that this crate is written for, and of its C
 /// header. The first call panics on an archive of another one.
-pub const VERSION: u64 = 3;
+pub const VERSION: u64 = 4;
 
 /// The whole pool in units; also the 1 of recovery, hazards and discounts.
 pub const ONE: u64 = 1_000_000_000;
@@ -106,7 +107,7 @@ pub const WITHDRAWN: u8 = 0x00;
 pub const BLANK_REGISTER: [u8; REGISTER_LENGTH] = [UNISSUED; REGISTER_LENGTH];
 
 /// Runs a deck on a blank register of its own and gives its listing. A sheet
-/// of a deck has one period.
+/// of a deck has one period, and elapsed fractions of 0 if it enters none.
 ///
 /// ```
 /// // An open before any pool is known.

@@ -65,7 +65,8 @@ impl<'a> OpenWalk<'a> {
 
     /// How much of the index, in millionths of the whole pool's, hedges the
     /// whole tranche against the next default, at a default count below
-    /// names. Refusals 2, 9, 10 and 14 to 16.
+    /// names. It is negative only where an elapsed fraction of the sheet is
+    /// not 0. Refusals 2, 9, 10 and 14 to 16.
     pub fn hedge_ratio(
         &self,
         register: &[u8],

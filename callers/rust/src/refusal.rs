@@ -88,6 +88,8 @@ refusals! {
     Discount, 6, "discount";
     /// One is above a year, their sum above ten, or the last is 0.
     Accrual, 7, "accrual";
+    /// One is above the accrual of the next premium date, at its step or after.
+    Elapsed, 21, "elapsed";
     /// One is above [`MAX_COUPON`](crate::MAX_COUPON).
     Coupon, 8, "coupon";
     /// The register says so.

@@ -38,6 +38,7 @@ pub struct Pool {
 ///     hazards: &[100_000_000, 200_000_000, 300_000_000, 400_000_000],
 ///     discounts: &[1_000_000_000; 3],
 ///     accruals: &[0, 0, 1_000_000_000],
+///     elapsed: &[0; 3],
 ///     coupons: &[1_000_000, 500_000],
 /// };
 /// let mut register = lavroudem::BLANK_REGISTER;
@@ -70,6 +71,12 @@ pub struct Lists<'a> {
     /// As many as steps. Entry i - 1 is paid at step i; 0 if that is no
     /// premium date.
     pub accruals: &'a [u64],
+    /// As many as steps. Entry i - 1 is the time since the last premium date
+    /// that a default into step i still pays for: it brings the premium side
+    /// this times what the default takes off the outstanding nominal. At most
+    /// the accrual of the next premium date, at step i or after it; 0 for
+    /// nothing.
+    pub elapsed: &'a [u64],
     /// tranches + 1 of them, that of the index last.
     pub coupons: &'a [u64],
 }
@@ -103,6 +110,7 @@ impl Sheet {
             hazards: append(lists.hazards),
             discounts: append(lists.discounts),
             accruals: append(lists.accruals),
+            elapsed: append(lists.elapsed),
             coupons: append(lists.coupons),
         };
         Sheet { layout, numbers }
@@ -120,18 +128,19 @@ impl Sheet {
             hazards: list(&self.layout.hazards),
             discounts: list(&self.layout.discounts),
             accruals: list(&self.layout.accruals),
+            elapsed: list(&self.layout.elapsed),
             coupons: list(&self.layout.coupons),
         }
     }
 
-    /// Starts a walk at the last step, with rows of its own. Refusals 1 to 10
-    /// and 25.
+    /// Starts a walk at the last step, with rows of its own. Refusals 1 to 10,
+    /// 21 and 25.
     pub fn open(&self, register: &[u8]) -> Result<OpenWalk<'_>, Refusal> {
         OpenWalk::open(self, register)
     }
 
     /// The chance of each default count, 0 to names, after so many steps from
-    /// no default, in billionths. Refusals 1 to 10, 13 and 25.
+    /// no default, in billionths. Refusals 1 to 10, 13, 21 and 25.
     pub fn forward(&self, register: &[u8], steps: usize) -> Result<Vec<u64>, Refusal> {
         let mut row = vec![0; self.forward_row_length()];
         lent::forward(self, register, &mut row, steps)?;

@@ -22,6 +22,7 @@ const LISTS: Lists = Lists {
     hazards: &[100_000_000, 200_000_000],
     discounts: &[1_000_000_000, 900_000_000],
     accruals: &[0, 1_000_000_000],
+    elapsed: &[0, 0],
     coupons: &[1_000_000, 500_000],
 };
 
@@ -166,7 +167,7 @@ fn rows_of_another_length() {
 
 #[test]
 fn lists_of_another_length() {
-    let spoils: [fn(&mut Lists); 8] = [
+    let spoils: [fn(&mut Lists); 11] = [
         |lists| lists.attachments = &[],
         |lists| lists.starts = &[],
         |lists| (lists.starts, lists.hazards) = (&[], &[]),
@@ -174,6 +175,9 @@ fn lists_of_another_length() {
         |lists| lists.hazards = &[0],
         |lists| lists.discounts = &[1, 1, 1],
         |lists| lists.accruals = &[1],
+        |lists| lists.elapsed = &[],
+        |lists| lists.elapsed = &[0],
+        |lists| lists.elapsed = &[0, 0, 0],
         |lists| lists.coupons = &[0, 0, 0],
     ];
     for spoil in spoils {
@@ -224,6 +228,46 @@ fn starts_are_checked_in_their_turn() {
     }
 }
 
+/// Of the small sheet: its one premium date, step 2, is the next for both.
+#[test]
+fn elapsed_fractions_above_their_accrual() {
+    for elapsed in [[ONE + 1, 0], [0, ONE + 1], [u64::MAX, u64::MAX]] {
+        let elapsed = &elapsed;
+        let lists = Lists { elapsed, ..LISTS };
+        let spoil = |l: &mut Lent| l.sheet = Sheet::new(POOL, lists);
+        refused(&WITH_ROWS, Refusal::Elapsed, spoil);
+        refused(&[forward], Refusal::Elapsed, spoil);
+    }
+    for call in WITH_ROWS.into_iter().chain([forward as Call]) {
+        let mut lent = lent();
+        let elapsed = &[ONE; 2];
+        lent.sheet = Sheet::new(POOL, Lists { elapsed, ..LISTS });
+        assert_eq!(call(&mut lent), Ok(()));
+    }
+}
+
+/// Accruals are looked at before elapsed fractions, and these before coupons.
+#[test]
+fn elapsed_fractions_are_checked_in_their_turn() {
+    let above: &[u64] = &[ONE + 1, ONE + 1];
+    let spoils = [
+        (Refusal::Accrual, above, above, above),
+        (Refusal::Elapsed, LISTS.accruals, above, above),
+        (Refusal::Coupon, LISTS.accruals, LISTS.elapsed, above),
+    ];
+    for (refusal, accruals, elapsed, coupons) in spoils {
+        let lists = Lists {
+            accruals,
+            elapsed,
+            coupons,
+            ..LISTS
+        };
+        let spoil = |l: &mut Lent| l.sheet = Sheet::new(POOL, lists);
+        refused(&WITH_ROWS, refusal, spoil);
+        refused(&[forward], refusal, spoil);
+    }
+}
+
 #[test]
 fn a_withdrawn_number() {
     let spoil = |l: &mut Lent| withdraw(&mut l.register, 7).unwrap();
@@ -243,6 +287,24 @@ fn walks_and_rows_of_someone_else() {
     refused(later, Refusal::NoWalk, |l| l.walk.position = 3);
     refused(later, Refusal::OverCeiling, |l| l.defaults[0] = 300_000_001);
     refused(later, Refusal::OverCeiling, |l| l.premiums[5] = u64::MAX);
+}
+
+/// One step from the root a year of accruals is to come. Above it are two
+/// units, for the one step behind, and one for each name that is left.
+#[test]
+fn premiums_up_to_their_ceiling() {
+    for place in 0..6 {
+        let ceiling = ONE + 2 + [2, 1, 0][place % 3];
+        let later = &WITH_ROWS[1..];
+        refused(later, Refusal::OverCeiling, |l| {
+            l.premiums[place] = ceiling + 1
+        });
+        for call in [back as Call, value] {
+            let mut lent = lent();
+            lent.premiums[place] = ceiling;
+            assert_eq!(call(&mut lent), Ok(()), "{place}");
+        }
+    }
 }
 
 #[test]
@@ -407,6 +469,7 @@ fn the_largest_deck_on_a_small_stack() {
     }
     deck.extend([0x03, 1, 0, 0, 0].repeat(125));
     deck.extend([0x04, 1, 0, 0, 0, 1, 0, 0, 0].repeat(3_650));
+    deck.extend([0x0D, 1, 0, 0, 0].repeat(3_650));
     deck.extend([0x06, 7, 0x08, 0x09, 0x42, 0x0E, 0x0B, 0, 0, 0x0C, 0, 0, 0]);
     let thread = thread::Builder::new().stack_size(256 * 1024);
     let listing = thread.spawn(move || run_deck(&deck)).unwrap().join();

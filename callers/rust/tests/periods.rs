@@ -17,6 +17,7 @@ const LISTS: Lists = Lists {
     hazards: &[100_000_000, 200_000_000, 300_000_000, 400_000_000],
     discounts: &[1_000_000_000; 3],
     accruals: &[0, 0, 1_000_000_000],
+    elapsed: &[0; 3],
     coupons: &[1_000_000, 500_000],
 };
 
@@ -118,6 +119,7 @@ fn the_most_periods() {
             hazards: &vec![100_000_000; 2 * periods],
             discounts: &vec![ONE; periods],
             accruals: &vec![100_000_000; periods],
+            elapsed: &vec![0; periods],
             ..LISTS
         };
         let sheet = Sheet::new(pool, lists);

@@ -28,7 +28,8 @@ fn the_header_has_the_same_layout() {
     let lines = [
         layout!(Pool lavroudem_pool: names steps tranches recovery number),
         layout!(Span lavroudem_span: at length),
-        layout!(Layout lavroudem_sheet: pool attachments starts hazards discounts accruals coupons),
+        layout!(Layout lavroudem_sheet:
+            pool attachments starts hazards discounts accruals elapsed coupons),
         layout!(Walk lavroudem_walk: open number position),
         layout!(Opened lavroudem_opened: refusal walk),
         layout!(Moved lavroudem_moved: refusal position walk),

@@ -29,11 +29,12 @@ const LISTS: Lists = Lists {
     ],
     discounts: &[980_000_000, 970_000_000, 960_000_000],
     accruals: &[250_000_000, 0, 500_000_000],
+    elapsed: &[125_000_000, 100_000_000, 400_000_000],
     coupons: &[1_000_000, 500_000],
 };
 
 /// In the order of the spans.
-const LENGTHS: [usize; 6] = [2, 2, 8, 3, 3, 2];
+const LENGTHS: [usize; 7] = [2, 2, 8, 3, 3, 3, 2];
 
 const REGISTER: [u8; 256] = [crate::LIVE; 256];
 
@@ -121,19 +122,20 @@ fn outcome(call: Call, before: &Desk, sheet: &Sheet) -> (Result<Vec<i64>, Refusa
     (call(&mut desk, sheet), desk)
 }
 
-fn spans(layout: &Layout) -> [Span; 6] {
+fn spans(layout: &Layout) -> [Span; 7] {
     [
         layout.attachments,
         layout.starts,
         layout.hazards,
         layout.discounts,
         layout.accruals,
+        layout.elapsed,
         layout.coupons,
     ]
 }
 
-fn spanned(numbers: &[u64], spans: [Span; 6]) -> Sheet {
-    let [attachments, starts, hazards, discounts, accruals, coupons] = spans;
+fn spanned(numbers: &[u64], spans: [Span; 7]) -> Sheet {
+    let [attachments, starts, hazards, discounts, accruals, elapsed, coupons] = spans;
     let layout = Layout {
         pool: POOL,
         attachments,
@@ -141,6 +143,7 @@ fn spanned(numbers: &[u64], spans: [Span; 6]) -> Sheet {
         hazards,
         discounts,
         accruals,
+        elapsed,
         coupons,
     };
     Sheet {
@@ -165,16 +168,17 @@ struct Tally {
 
 /// Each call on a sheet of these spans, beside the plain sheet of the lists
 /// that they mean.
-fn assert_meaning(tally: &mut Tally, before: &Desk, numbers: &[u64], spans: [Span; 6]) {
+fn assert_meaning(tally: &mut Tally, before: &Desk, numbers: &[u64], spans: [Span; 7]) {
     let sheet = spanned(numbers, spans);
     let lists = spans.map(|span| meant(numbers, span));
-    let [attachments, starts, hazards, discounts, accruals, coupons] = lists;
+    let [attachments, starts, hazards, discounts, accruals, elapsed, coupons] = lists;
     let lists_meant = Lists {
         attachments,
         starts,
         hazards,
         discounts,
         accruals,
+        elapsed,
         coupons,
     };
     let plain = Sheet::new(POOL, lists_meant);
@@ -205,11 +209,12 @@ fn every_call_accepts_the_plain_sheet() {
     }
 }
 
-/// The 720 orders of six lists.
-fn orders() -> Vec<[usize; 6]> {
-    let codes = 0..6_usize.pow(6);
-    let digits = codes.map(|code| [0, 1, 2, 3, 4, 5].map(|place| code / 6_usize.pow(place) % 6));
-    let orders = digits.filter(|order| (0..6).all(|list| order.contains(&list)));
+/// The 5,040 orders of seven lists.
+fn orders() -> Vec<[usize; 7]> {
+    let codes = 0..7_usize.pow(7);
+    let places = [0, 1, 2, 3, 4, 5, 6];
+    let digits = codes.map(|code| places.map(|place| code / 7_usize.pow(place) % 7));
+    let orders = digits.filter(|order| (0..7).all(|list| order.contains(&list)));
     orders.collect()
 }
 
@@ -237,7 +242,7 @@ fn lists_in_any_order_with_gaps() {
             );
         }
     }
-    assert_eq!(orders().len(), 720);
+    assert_eq!(orders().len(), 5_040);
 }
 
 /// What would be taken for `n` by a count in 32 bits or in bytes, and the
@@ -285,14 +290,14 @@ fn oddly(way: usize, own: Span, end: usize) -> Span {
     Span { at, length }
 }
 
-/// All six lists at once, each in every odd way.
+/// All seven lists at once, each in every odd way.
 #[test]
-fn six_odd_spans_at_once() {
+fn seven_odd_spans_at_once() {
     let plain = Sheet::new(POOL, LISTS);
     let end = plain.numbers.len();
     let before = on_the_way();
     let mut tally = Tally::default();
-    for code in 0..5_usize.pow(6) {
+    for code in 0..5_usize.pow(7) {
         let mut odd = spans(&plain.layout);
         for (list, span) in odd.iter_mut().enumerate() {
             *span = oddly(code / 5_usize.pow(list as u32) % 5, *span, end);
