@@ -322,22 +322,26 @@ fn accruals(entries: &[Entry]) -> Vec<Cause> {
 /// after it.
 fn elapsed(fractions: &[Entry], accruals: &[Entry]) -> Vec<Cause> {
     let mut causes = Vec::new();
-    for (place, &(offset, number)) in (1..).zip(fractions) {
-        let mut dates = (1..).zip(accruals).skip(place - 1);
-        let next = dates.find(|&(_, &(_, accrual))| accrual != 0);
-        let Some((date, &(_, accrual))) = next else {
-            break; // 7 comes before: the last step is a premium date
-        };
-        let fault = Fault::AboveAccrual {
-            place,
-            number,
-            accrual,
-            date,
-        };
-        if number > accrual {
-            causes.push(Cause { offset, fault });
+    let mut next = None;
+    // From the last step, which is a premium date: 7 comes before.
+    let steps = fractions.iter().zip(accruals).enumerate();
+    for (at, (&(offset, number), &(_, accrual))) in steps.rev() {
+        let place = at + 1;
+        if accrual != 0 {
+            next = Some((place, accrual));
         }
+        let above = next.filter(|&(_, accrual)| number > accrual);
+        causes.extend(above.map(|(date, accrual)| Cause {
+            offset,
+            fault: Fault::AboveAccrual {
+                place,
+                number,
+                accrual,
+                date,
+            },
+        }));
     }
+    causes.reverse();
     causes
 }
 
