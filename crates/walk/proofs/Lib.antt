@@ -14,4 +14,6 @@ pub mod FromRules
 pub mod Risk
 pub mod OurEngine
 pub mod Contracts
+pub mod Manners
 pub mod OnePeriod
+pub mod DatesOnly

@@ -2,7 +2,9 @@ pub mod Answers
 pub mod RefusalOrders
 pub mod Calls
 pub mod CallRules
+pub mod Manners
 pub mod OnePeriod
+pub mod DatesOnly
 pub mod Engine
 pub mod OurEngine
 pub mod CallLists
