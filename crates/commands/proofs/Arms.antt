@@ -1,11 +1,11 @@
 -- The command of each command byte, from its operands.
 use Prim.Native.Nat.{ℕ, _+_}
-use mathlib.Core.Path.{_≡_}
+use mathlib.Core.Path.{_≡_, ap}
 use mathlib.Core.List.{List}
 use lib.ListN.{getD}
 use Rattle.commands.specs.Commands.{lowFirst, commands, decoded}
 use Rattle.commands.specs.declared.Command.the-variants.{Enter, Act}
-use Rattle.commands.specs.declared.Entry.the-variants.{Pool, Attachment, Hazard, Step, Coupon}
+use Rattle.commands.specs.declared.Entry.the-variants.{Pool, Attachment, Hazard, Step, Coupon, Elapsed}
 use Rattle.commands.specs.declared.Order.the-variants.{Issue, Withdraw, Open, Back, Value, Delta, Forward}
 use Rattle.commands.proofs.Low.{one}
 
@@ -57,3 +57,7 @@ module _ {code : ℕ} (s : List ℕ) (b : ℕ) where
   pub forward : {step count : ℕ} → code ≡ 12 → step ≡ lowFirst 2 s b → count ≡ lowFirst 1 s (b + 2) → Act (Forward step count) ≡ decoded code s b
   unfolding decoded commands
   forward e i k = rw e (cc)
+
+pub elapsed : {e : ℕ} (s : List ℕ) (b : ℕ) → e ≡ lowFirst 4 s b → Enter (Elapsed e) ≡ decoded 13 s b
+unfolding decoded commands
+elapsed s b h = ap (λ (e : ℕ). Enter (Elapsed e)) h

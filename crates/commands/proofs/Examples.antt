@@ -3,7 +3,7 @@ use mathlib.Core.Path.{_≡_, refl}
 use mathlib.Core.List.{[], _∷_}
 use Rattle.commands.specs.Commands.{lowFirst, operands, commands, decoded, commandAt}
 use Rattle.commands.specs.declared.Command.the-variants.{Enter, Act, Unknown, CutShort}
-use Rattle.commands.specs.declared.Entry.the-variants.{Pool}
+use Rattle.commands.specs.declared.Entry.the-variants.{Pool, Elapsed}
 use Rattle.commands.specs.declared.Order.the-variants.{Open, Forward}
 
 pool : commandAt (1 ∷ 2 ∷ 2 ∷ 0 ∷ 1 ∷ 0 ∷ 132 ∷ 215 ∷ 23 ∷ 7 ∷ []) 0 ≡ Enter (Pool 2 2 1 400000000 7)
@@ -24,7 +24,12 @@ short : commandAt (9 ∷ 2 ∷ []) 0 ≡ CutShort
 unfolding lowFirst operands commands decoded commandAt
 short = refl
 
--- 00 and 0D at the end of a deck are unknown and not cut short
-unknown : (commandAt (0 ∷ []) 0 ≡ Unknown) × (commandAt (13 ∷ []) 0 ≡ Unknown)
+-- 0D elapsed, low byte first
+elapsed : commandAt (13 ∷ 1 ∷ 2 ∷ 0 ∷ 0 ∷ []) 0 ≡ Enter (Elapsed 513)
+unfolding lowFirst operands commands decoded commandAt
+elapsed = refl
+
+-- 00 and 0E at the end of a deck are unknown and not cut short
+unknown : (commandAt (0 ∷ []) 0 ≡ Unknown) × (commandAt (14 ∷ []) 0 ≡ Unknown)
 unfolding lowFirst operands commands decoded commandAt
 unknown = (refl, refl)

@@ -13,7 +13,7 @@ use Rattle.commands.specs.Sizes.{Bytes, Sized}
 use Rattle.commands.specs.declared.Command.{Command}
 use Rattle.commands.specs.declared.Command.the-variants.{Enter, Act, Unknown, CutShort}
 use Rattle.commands.specs.declared.Entry.{Entry}
-use Rattle.commands.specs.declared.Entry.the-variants.{Pool, Attachment, Hazard, Step, Coupon}
+use Rattle.commands.specs.declared.Entry.the-variants.{Pool, Attachment, Hazard, Step, Coupon, Elapsed}
 use Rattle.commands.specs.declared.Order.{Order}
 use Rattle.commands.specs.declared.Order.the-variants.{Issue, Withdraw, Open, Back, Value, Delta, Forward}
 
@@ -38,7 +38,7 @@ commands-sized s b h =
     let value : Sized (getD (commands s b) 10 Unknown) = omega (arith, byte b, byte (b + 1)) in
     let delta : Sized (getD (commands s b) 11 Unknown) = omega (arith, byte b, byte (b + 1)) in
     let forward : Sized (getD (commands s b) 12 Unknown) = omega (arith, back, byte (b + 2)) in
-    (tt, (pool, (long b, (long b, (step, (long b, (byte b, (byte b, (tt, (back, (value, (delta, (forward, tt)))))))))))))
+    (tt, (pool, (long b, (long b, (step, (long b, (byte b, (byte b, (tt, (back, (value, (delta, (forward, (long b, tt))))))))))))))
 
 decoded-sized : (code : ℕ) (s : List ℕ) (b : ℕ) → Bytes s → Sized (decoded code s b)
 unfolding decoded
@@ -71,6 +71,7 @@ entry-some (Attachment x) = (lit≤ tt, lit≤ tt)
 entry-some (Hazard p) = (lit≤ tt, lit≤ tt)
 entry-some (Step discount accrual) = (lit≤ tt, lit≤ tt)
 entry-some (Coupon x) = (lit≤ tt, lit≤ tt)
+entry-some (Elapsed e) = (lit≤ tt, lit≤ tt)
 
 pub order-some : (o : Order) → (1 ≤ orderSize o) × (orderSize o ≤ 4)
 unfolding orderSize

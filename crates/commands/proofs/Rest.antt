@@ -6,13 +6,9 @@ use mathlib.Core.List.{List}
 use native.Mathlib.Omega.{arith}
 use borrow.Author.Tests.{leb-true, le-leb, lt-leb}
 use lib.Dec.{T, leb}
-use lib.ListN.{length, getD, List·getD-eq-default}
+use lib.ListN.{length, getD}
 use Rattle.commands.specs.Commands.{operands, decoded, commands, isCommand, commandAt}
 use Rattle.commands.specs.declared.Command.the-variants.{Unknown, CutShort}
-
-above : (code : ℕ) (s : List ℕ) (b : ℕ) → 13 ≤ code → Unknown ≡ decoded code s b
-unfolding decoded commands
-above code s b h = sym (List·getD-eq-default (commands s b) Unknown h)
 
 below : (code : ℕ) (s : List ℕ) (b : ℕ) → code ≡ 0 → Unknown ≡ decoded code s b
 unfolding decoded commands
@@ -39,13 +35,13 @@ zero-of h = omega arith
 pub no-entry : (code : ℕ) (s : List ℕ) (b : ℕ) → code ≤ 5 → (code ≡ 1 → ⊥) → (code ≡ 2 → ⊥) → (code ≡ 3 → ⊥) → (code ≡ 4 → ⊥) → (code ≡ 5 → ⊥) → Unknown ≡ decoded code s b
 no-entry code s b h n1 n2 n3 n4 n5 = below code s b (zero-of (down (down (down (down (down h n5) n4) n3) n2) n1))
 
-pub no-order : (code : ℕ) (s : List ℕ) (b : ℕ) → 6 ≤ code → (code ≡ 6 → ⊥) → (code ≡ 7 → ⊥) → (code ≡ 8 → ⊥) → (code ≡ 9 → ⊥) → (code ≡ 10 → ⊥) → (code ≡ 11 → ⊥) → (code ≡ 12 → ⊥) → Unknown ≡ decoded code s b
-no-order code s b h n6 n7 n8 n9 n10 n11 n12 = above code s b (up (up (up (up (up (up (up h n6) n7) n8) n9) n10) n11) n12)
+pub no-order : (code : ℕ) (s : List ℕ) (b : ℕ) → 6 ≤ code → code ≤ 12 → (code ≡ 6 → ⊥) → (code ≡ 7 → ⊥) → (code ≡ 8 → ⊥) → (code ≡ 9 → ⊥) → (code ≡ 10 → ⊥) → (code ≡ 11 → ⊥) → (code ≡ 12 → ⊥) → Unknown ≡ decoded code s b
+no-order code s b h most n6 n7 n8 n9 n10 n11 n12 = absurd (omega (arith, up (up (up (up (up (up (up h n6) n7) n8) n9) n10) n11) n12))
 
 -- the tests of `command_at`
-pub in-table : (code : ℕ) → isCommand code ≡ true → (1 ≤ code) × (code ≤ 12)
+pub in-table : (code : ℕ) → isCommand code ≡ true → (1 ≤ code) × (code ≤ 13)
 in-table code h =
-    (leb-true 1 code (and-left (leb 1 code) (leb code 12) h), leb-true code 12 (and-right (leb 1 code) (leb code 12) h))
+    (leb-true 1 code (and-left (leb 1 code) (leb code 13) h), leb-true code 13 (and-right (leb 1 code) (leb code 13) h))
 
 module _ (s : List ℕ) (at : ℕ) where
   pub unknown : isCommand (getD s at 0) ≡ false → Unknown ≡ commandAt s at

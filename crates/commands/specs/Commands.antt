@@ -7,7 +7,7 @@ use lib.ListN.{length, getD}
 use Rattle.commands.specs.declared.Command.{Command}
 use Rattle.commands.specs.declared.Command.the-variants.{Enter, Act, Unknown, CutShort}
 use Rattle.commands.specs.declared.Entry.{Entry}
-use Rattle.commands.specs.declared.Entry.the-variants.{Pool, Attachment, Hazard, Step, Coupon}
+use Rattle.commands.specs.declared.Entry.the-variants.{Pool, Attachment, Hazard, Step, Coupon, Elapsed}
 use Rattle.commands.specs.declared.Order.{Order}
 use Rattle.commands.specs.declared.Order.the-variants.{Issue, Withdraw, Open, Back, Value, Delta, Forward}
 
@@ -17,15 +17,15 @@ lowFirst zero s at = 0
 lowFirst (suc width) s at = getD s at 0 + 256 * lowFirst width s (at + 1)
 
 -- the widths of the operands of 00, 01 pool, 02 cut, 03 hazard, 04 step, 05 coupon, 06 issue, 07 withdraw, 08 open,
--- 09 back, 0A value, 0B delta, 0C forward; 00 is no command
+-- 09 back, 0A value, 0B delta, 0C forward, 0D elapsed (T-01); 00 is no command
 abbrev pub widths : List ℕ
-widths = 0 ∷ (1 + 2 + 1 + 4 + 1) ∷ 4 ∷ 4 ∷ (4 + 4) ∷ 4 ∷ 1 ∷ 1 ∷ 0 ∷ 2 ∷ (1 + 1) ∷ (1 + 1) ∷ (2 + 1) ∷ []
+widths = 0 ∷ (1 + 2 + 1 + 4 + 1) ∷ 4 ∷ 4 ∷ (4 + 4) ∷ 4 ∷ 1 ∷ 1 ∷ 0 ∷ 2 ∷ (1 + 1) ∷ (1 + 1) ∷ (2 + 1) ∷ 4 ∷ []
 
 -- how many bytes of operands a command byte has
 unfoldable pub operands : ℕ → ℕ
 operands code = getD widths code 0
 
--- the commands of the bytes 00, 01, .. 0C, with their operands in s from b on; document 01 calls an attachment point a cut,
+-- the commands of the bytes 00, 01, .. 0D, with their operands in s from b on; document 01 calls an attachment point a cut,
 -- a tranche a slice, and a count k
 unfoldable pub commands : List ℕ → ℕ → List Command
 commands s b =
@@ -42,6 +42,7 @@ commands s b =
     ∷ Act (Value (lowFirst 1 s b) (lowFirst 1 s (b + 1)))
     ∷ Act (Delta (lowFirst 1 s b) (lowFirst 1 s (b + 1)))
     ∷ Act (Forward (lowFirst 2 s b) (lowFirst 1 s (b + 2)))
+    ∷ Enter (Elapsed (lowFirst 4 s b))
     ∷ []
 
 -- the command of a command byte
@@ -52,9 +53,9 @@ abbrev pub pick : Bool → Command → Command → Command
 pick true a b = a
 pick false a b = b
 
--- the bytes 01 to 0C are commands
+-- the bytes 01 to 0D are commands
 abbrev pub isCommand : ℕ → Bool
-isCommand code = leb 1 code && leb code 12
+isCommand code = leb 1 code && leb code 13
 
 -- what stands at an offset: 18 for a byte that is no command, then 19 for operands that run past the end, else the command
 unfoldable pub commandAt : List ℕ → ℕ → Command
@@ -70,6 +71,7 @@ entrySize (Attachment x) = 5
 entrySize (Hazard p) = 5
 entrySize (Step discount accrual) = 9
 entrySize (Coupon x) = 5
+entrySize (Elapsed e) = 5
 
 unfoldable pub orderSize : Order → ℕ
 orderSize (Issue number) = 2

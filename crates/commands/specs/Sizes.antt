@@ -5,7 +5,7 @@ use lib.ListN.{getD}
 use Rattle.commands.specs.declared.Command.{Command}
 use Rattle.commands.specs.declared.Command.the-variants.{Enter, Act, Unknown, CutShort}
 use Rattle.commands.specs.declared.Entry.{Entry}
-use Rattle.commands.specs.declared.Entry.the-variants.{Pool, Attachment, Hazard, Step, Coupon}
+use Rattle.commands.specs.declared.Entry.the-variants.{Pool, Attachment, Hazard, Step, Coupon, Elapsed}
 use Rattle.commands.specs.declared.Order.{Order}
 use Rattle.commands.specs.declared.Order.the-variants.{Issue, Withdraw, Open, Back, Value, Delta, Forward}
 
@@ -20,6 +20,7 @@ EntrySized (Attachment x) = x < 2 ^ 32
 EntrySized (Hazard p) = p < 2 ^ 32
 EntrySized (Step discount accrual) = (discount < 2 ^ 32) × (accrual < 2 ^ 32)
 EntrySized (Coupon x) = x < 2 ^ 32
+EntrySized (Elapsed e) = e < 2 ^ 32
 
 abbrev pub OrderSized : Order → Type 0
 OrderSized (Issue number) = number ≤ 255

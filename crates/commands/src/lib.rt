@@ -4,7 +4,7 @@ ghost use Prim.Native.Nat.{_+_, _≤_, _<_, _^_};
 ghost use lib.ListN.{length};
 ghost use Rattle.commands.specs.Commands.{lowFirst, operands, decoded, isCommand, commandAt, entrySize, orderSize};
 
-// Commands 01 to 05, which add to the sheet and print nothing.
+// Commands 01 to 05 and 0D, which add to the sheet and print nothing.
 pub enum Entry {
     Pool {
         names: usize,
@@ -21,6 +21,7 @@ pub enum Entry {
         accrual: u64,
     },
     Coupon(u64),
+    Elapsed(u64),
 }
 
 // Commands 06 to 0C, which print a line.
@@ -54,21 +55,21 @@ fn low_first(deck: &[u8], at: usize, width: usize) -> u64
     }
 }
 
-// Whether a byte is a command, 01 to 0C.
+// Whether a byte is a command, 01 to 0D.
 fn is_command(code: u8) -> bool
     ensures { λ r. ⌜ r ≡ isCommand code ⌝ }
 {
     if code < 1 {
         return false;
     }
-    code <= 12
+    code <= 13
 }
 
-// How many bytes of operands the command bytes 00 to 0C have.
-const WIDTHS: [usize; 13] = [0, 9, 4, 4, 8, 4, 1, 1, 0, 2, 2, 2, 3];
+// How many bytes of operands the command bytes 00 to 0D have.
+const WIDTHS: [usize; 14] = [0, 9, 4, 4, 8, 4, 1, 1, 0, 2, 2, 2, 3, 4];
 
 fn operands_of(code: u8) -> usize
-    requires { ⌜ code < 13 ⌝ }
+    requires { ⌜ code < 14 ⌝ }
     ensures { λ r. ⌜ r ≡ operands code ⌝ }
 {
     WIDTHS[code as usize]
@@ -100,7 +101,7 @@ fn decode_entry(deck: &[u8], code: u8, b: usize) -> Command
 
 // Commands 06 to 0C, with their operands from b on.
 fn decode_order(deck: &[u8], code: u8, b: usize) -> Command
-    requires { ⌜ (6 ≤ code) × (b + operands code ≤ length (now deck)) ⌝ }
+    requires { ⌜ (6 ≤ code) × (code ≤ 12) × (b + operands code ≤ length (now deck)) ⌝ }
     ensures { λ r. ⌜ r ≡ decoded code (now (deck .entry)) b ⌝ }
 {
     match code {
@@ -124,6 +125,14 @@ fn decode_order(deck: &[u8], code: u8, b: usize) -> Command
     }
 }
 
+// Command 0D, with its operand from b on.
+fn decode_elapsed(deck: &[u8], b: usize) -> Command
+    requires { ⌜ b + operands 13 ≤ length (now deck) ⌝ }
+    ensures { λ r. ⌜ r ≡ decoded 13 (now (deck .entry)) b ⌝ }
+{
+    Command::Enter(Entry::Elapsed(low_first(deck, b, 4)))
+}
+
 // What stands at an offset: refusals 18 and 19 in that order, else the command.
 pub fn command_at(deck: &[u8], at: usize) -> Command
     requires { ⌜ at < length (now deck) ⌝ }
@@ -135,6 +144,9 @@ pub fn command_at(deck: &[u8], at: usize) -> Command
     }
     if deck.len() - at - 1 < operands_of(code) {
         return Command::CutShort;
+    }
+    if code == 13 {
+        return decode_elapsed(deck, at + 1);
     }
     if code < 6 {
         return decode_entry(deck, code, at + 1);
@@ -161,6 +173,7 @@ pub fn entry_size(e: Entry) -> usize
             accrual: _,
         } => 9,
         Entry::Coupon(_) => 5,
+        Entry::Elapsed(_) => 5,
     }
 }
 

@@ -92,7 +92,7 @@ returns-8 : tie.Need-returns-8
 returns-8 c =
     let a = c .before .before .args in
     let r = c .match .rest in
-    no-order (a .code) (a .deck .now) (a .b) (omega arith) (r .0 .0 .0 .0 .0 .0 .1) (r .0 .0 .0 .0 .0 .1) (r .0 .0 .0 .0 .1) (r .0 .0 .0 .1) (r .0 .0 .1) (r .0 .1) (r .1)
+    no-order (a .code) (a .deck .now) (a .b) (omega arith) (omega arith) (r .0 .0 .0 .0 .0 .0 .1) (r .0 .0 .0 .0 .0 .1) (r .0 .0 .0 .0 .1) (r .0 .0 .0 .1) (r .0 .0 .1) (r .0 .1) (r .1)
 
 pub decode-order-spec : {M : Type 1} → statement M
 decode-order-spec =
