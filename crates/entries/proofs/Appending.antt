@@ -32,6 +32,11 @@ pub list-behind : (s t : Span) (x : ℕ) (numbers : List ℕ) → t .at + t .len
 unfolding listIn stored
 list-behind s t x numbers h = ap (take (s .length)) (drop-set-lt (s .at) numbers (t .at + t .length) x h)
 
+-- behind two places
+pub list-behind-two : (s t u : Span) (x y : ℕ) (numbers : List ℕ) → t .at + t .length < s .at → u .at + u .length < s .at →
+    listIn s (stored u y (stored t x numbers)) ≡ listIn s numbers
+list-behind-two s t u x y numbers h k = list-behind s u y (stored t x numbers) k ∙ list-behind s t x numbers h
+
 -- a list that ends before it
 pub list-ahead : (s t : Span) (x : ℕ) (numbers : List ℕ) → s .at + s .length ≤ t .at + t .length → listIn s (stored t x numbers) ≡ listIn s numbers
 unfolding listIn stored

@@ -1,11 +1,11 @@
-// The sheet of a deck, as commands 01 to 05 enter it: figures by value, and all of its lists in one lent list of numbers.
+// The sheet of a deck, as commands 01 to 05 and 0D enter it: figures by value, and all of its lists in one lent list of numbers.
 ghost use mathlib.Core.Path.{_≡_};
 ghost use mathlib.Core.Bool.{true};
 ghost use mathlib.Core.List.{List};
 ghost use Prim.Native.Nat.{ℕ, _+_, _<_};
 ghost use lib.ListN.{length};
 ghost use Rattle.entries.specs.Draft.{hasRoom, added};
-ghost use Rattle.entries.specs.Layouts.{poolFigures, emptyLayout, draftIn, LayoutLimits, longer, stored};
+ghost use Rattle.entries.specs.Layouts.{broughtSpan, emptyLayout, draftIn, LayoutLimits, Leaves, longer, stored};
 use commands::Entry;
 use sheet::NAMES_MOST;
 use sheet::POINTS_MOST;
@@ -26,12 +26,17 @@ const COUPONS: usize = ACCRUALS + STEPS_MOST;
 // The start of the one period of a deck.
 pub const STARTS: usize = COUPONS + POINTS_MOST;
 
-// How many numbers are lent.
-pub const NUMBERS: usize = STARTS + 1;
+// Elapsed fractions, zeros as long as none is entered.
+pub const ELAPSED: usize = STARTS + 1;
 
-// Whether there was a pool command, and the sheet so far. The starts of its spans stay, and their lengths grow.
+// How many numbers are lent.
+pub const NUMBERS: usize = ELAPSED + STEPS_MOST;
+
+// Whether there was a pool command, how many elapsed fractions were entered, and the sheet so far.
+// The starts of its spans stay, and their lengths grow.
 pub struct Layout {
     pub pooled: bool,
+    pub entered: usize,
     pub sheet: Sheet,
 }
 
@@ -41,6 +46,7 @@ pub fn empty() -> Layout
 {
     Layout {
         pooled: false,
+        entered: 0,
         sheet: Sheet {
             pool: Pool {
                 names: 0,
@@ -66,6 +72,10 @@ pub fn empty() -> Layout
                 at: ACCRUALS,
                 length: 0,
             },
+            elapsed: Span {
+                at: ELAPSED,
+                length: 0,
+            },
             coupons: Span {
                 at: COUPONS,
                 length: 0,
@@ -74,7 +84,7 @@ pub fn empty() -> Layout
     }
 }
 
-// Whether there is room for an entry: for one pool, 9 attachment points and coupons, 125 hazards and 3,650 steps (20).
+// Whether there is room for an entry: for one pool, 9 attachment points and coupons, 125 hazards, 3,650 steps and elapsed fractions (20).
 pub fn has_room(entry: Entry, layout: Layout) -> bool
     ensures { λ r. ⌜ ((numbers : List ℕ) → LayoutLimits layout numbers → r ≡ hasRoom entry (draftIn layout numbers)) ⌝ }
 {
@@ -94,6 +104,7 @@ pub fn has_room(entry: Entry, layout: Layout) -> bool
             accrual: _,
         } => sheet.discounts.length < STEPS_MOST,
         Entry::Coupon(_) => sheet.coupons.length < POINTS_MOST,
+        Entry::Elapsed(_) => layout.entered < STEPS_MOST,
     }
 }
 
@@ -113,17 +124,83 @@ fn append(span: Span, numbers: &mut [u64], number: u64) -> Span
     }
 }
 
-// The pool of a command.
-fn pool_figures(names: usize, steps: usize, tranches: usize, recovery: u64, number: u8) -> Pool
-    ensures { λ r. ⌜ r ≡ poolFigures names steps tranches recovery number ⌝ }
+// Where the elapsed fractions stand that a call brings: those entered, or else a zero a step.
+fn brought_span(entered: usize, steps: usize) -> Span
+    ensures { λ r. ⌜ r ≡ broughtSpan entered steps ⌝ }
 {
-    Pool {
+    if entered == 0 {
+        return Span {
+            at: ELAPSED,
+            length: steps,
+        };
+    }
+    Span {
+        at: ELAPSED,
+        length: entered,
+    }
+}
+
+// Adds a pool, which stores no number.
+fn add_pool(
+    layout: Layout,
+    names: usize,
+    steps: usize,
+    tranches: usize,
+    recovery: u64,
+    number: u8,
+) -> Layout
+    ensures { λ r. ⌜ ((s : List ℕ) → LayoutLimits layout s → Leaves (Entry.Pool names steps tranches recovery number) layout s r s) ⌝ }
+{
+    let mut next = layout;
+    let mut sheet = layout.sheet;
+    let pool = Pool {
         names,
         steps,
         tranches,
         recovery,
         number,
-    }
+    };
+    let elapsed = brought_span(layout.entered, steps);
+    sheet.pool = pool;
+    sheet.elapsed = elapsed;
+    next.pooled = true;
+    next.sheet = sheet;
+    next
+}
+
+// Adds a step: a discount and an accrual.
+fn add_step(layout: Layout, numbers: &mut [u64], discount: u64, accrual: u64) -> Layout
+    requires { ⌜ LayoutLimits layout (now numbers) ⌝ }
+    requires { ⌜ hasRoom (Entry.Step discount accrual) (draftIn layout (now numbers)) ≡ true ⌝ }
+    ensures { λ r. ⌜ Leaves (Entry.Step discount accrual) layout (now (numbers .entry)) r (now (numbers .exit)) ⌝ }
+{
+    let mut next = layout;
+    let mut sheet = layout.sheet;
+    let discounts = append(sheet.discounts, numbers, discount);
+    let accruals = append(sheet.accruals, numbers, accrual);
+    sheet.discounts = discounts;
+    sheet.accruals = accruals;
+    next.sheet = sheet;
+    next
+}
+
+// Adds an elapsed fraction: a call brings those entered from now on.
+fn add_elapsed(layout: Layout, numbers: &mut [u64], fraction: u64) -> Layout
+    requires { ⌜ LayoutLimits layout (now numbers) ⌝ }
+    requires { ⌜ hasRoom (Entry.Elapsed fraction) (draftIn layout (now numbers)) ≡ true ⌝ }
+    ensures { λ r. ⌜ Leaves (Entry.Elapsed fraction) layout (now (numbers .entry)) r (now (numbers .exit)) ⌝ }
+{
+    let mut next = layout;
+    let mut sheet = layout.sheet;
+    let entered = Span {
+        at: ELAPSED,
+        length: layout.entered,
+    };
+    let elapsed = append(entered, numbers, fraction);
+    sheet.elapsed = elapsed;
+    next.entered = elapsed.length;
+    next.sheet = sheet;
+    next
 }
 
 // Adds an entry for which there is room.
@@ -133,7 +210,7 @@ pub fn add(entry: Entry, layout: Layout, numbers: &mut [u64]) -> Layout
     ensures limits { λ r. ⌜ LayoutLimits r (now (numbers .exit)) ⌝ }
     ensures adds { λ r. ⌜ draftIn r (now (numbers .exit)) ≡ added entry (draftIn layout (now (numbers .entry))) ⌝ }
 {
-    let mut pooled = layout.pooled;
+    let mut next = layout;
     let mut sheet = layout.sheet;
     match entry {
         Entry::Pool {
@@ -143,32 +220,31 @@ pub fn add(entry: Entry, layout: Layout, numbers: &mut [u64]) -> Layout
             recovery,
             number,
         } => {
-            let pool = pool_figures(names, steps, tranches, recovery, number);
-            sheet.pool = pool;
-            pooled = true;
-            return Layout { pooled, sheet };
+            return add_pool(layout, names, steps, tranches, recovery, number);
         }
         Entry::Attachment(point) => {
             let attachments = append(sheet.attachments, numbers, point);
             sheet.attachments = attachments;
-            return Layout { pooled, sheet };
+            next.sheet = sheet;
+            return next;
         }
         Entry::Hazard(hazard) => {
             let hazards = append(sheet.hazards, numbers, hazard);
             sheet.hazards = hazards;
-            return Layout { pooled, sheet };
+            next.sheet = sheet;
+            return next;
         }
         Entry::Step { discount, accrual } => {
-            let discounts = append(sheet.discounts, numbers, discount);
-            let accruals = append(sheet.accruals, numbers, accrual);
-            sheet.discounts = discounts;
-            sheet.accruals = accruals;
-            return Layout { pooled, sheet };
+            return add_step(layout, numbers, discount, accrual);
         }
         Entry::Coupon(coupon) => {
             let coupons = append(sheet.coupons, numbers, coupon);
             sheet.coupons = coupons;
-            return Layout { pooled, sheet };
+            next.sheet = sheet;
+            return next;
+        }
+        Entry::Elapsed(fraction) => {
+            return add_elapsed(layout, numbers, fraction);
         }
     }
 }

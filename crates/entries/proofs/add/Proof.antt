@@ -1,6 +1,5 @@
--- `entries::add` meets its contract: each way out is a law of `Entering`.
-use native.Mathlib.Omega.{arith}
-use Rattle.entries.proofs.Entering.{coupon-room, pool-adds, attachment-adds, hazard-adds, step-adds, coupon-adds}
+-- `entries::add` meets its contract: each way out is a law of `Entering`, or what the function of its entry ensures.
+use Rattle.entries.proofs.Entering.{room-as, leaves-as, attachment-adds, hazard-adds, coupon-adds}
 use borrow.Author.Needs.{needs}
 use Rattle.entries.proofs.add.Statement.{statement}
 use Rattle.entries.proofs.add.Tie as tie
@@ -12,14 +11,14 @@ start m = m .before .before
 enum-known-entry : tie.Need-enum-known-entry
 enum-known-entry c = search needs
 
-pool-figures-requires : tie.Need-pool-figures-requires
-pool-figures-requires c κs = search needs
+add-pool-requires : tie.Need-add-pool-requires
+add-pool-requires c κs = search needs
 
 returns : tie.Need-returns
 returns c =
     let known = c .before .before in
     let s = start (known .before .before) in
-    pool-adds (s .args .entry) (s .args .layout) (s .args .numbers .now) (s .pre .0) (s .pre .1) (known .entry .given .1) (c .pool-figures .ensures)
+    leaves-as (known .entry .given .1) (s .args .layout) (s .args .numbers .now) (c .add-pool .ensures (s .args .numbers .now) (s .pre .0))
 
 enum-known-entry-2 : tie.Need-enum-known-entry-2
 enum-known-entry-2 c = search needs
@@ -60,39 +59,27 @@ returns-3 c =
 enum-known-entry-4 : tie.Need-enum-known-entry-4
 enum-known-entry-4 c = search needs
 
-append-requires-3 : tie.Need-append-requires-3
-append-requires-3 c κs = search needs
-
-append-requires-4 : tie.Need-append-requires-4
-append-requires-4 c κs = search needs
+add-step-requires : tie.Need-add-step-requires
+add-step-requires c κs =
+    let known = c .before .before in
+    let s = start (known .before .before) in
+    (s .pre .0, room-as (known .entry4 .given .1) (s .args .layout) (s .args .numbers .now) (s .pre .1))
 
 same-length-3 : tie.Need-same-length-3
 same-length-3 c = search needs
 
 returns-4 : tie.Need-returns-4
 returns-4 c =
-    let accrual = c .before .before in
-    let discount = accrual .before .before .before .before in
-    let known = discount .before .before .before in
+    let called = c .before .before in
+    let known = called .before .before .before in
     let s = start (known .before .before) in
-    let t = discount .append3 .ensures in
-    let u = accrual .append4 .ensures in
-    step-adds (s .args .entry) (s .args .layout) (s .args .numbers .now) (s .pre .0) (s .pre .1)
-    (known .entry4 .given .1) (t .0) (t .1) (u .0) (u .1)
+    leaves-as (known .entry4 .given .1) (s .args .layout) (s .args .numbers .now) (called .add-step .ensures)
 
 enum-known-entry-5 : tie.Need-enum-known-entry-5
 enum-known-entry-5 c = search needs
 
-append-requires-5 : tie.Need-append-requires-5
-append-requires-5 c κs =
-    let known = c .before .before in
-    let s = start (known .before .before) in
-    omega (
-      arith,
-      s .pre .0,
-      coupon-room (s .args .entry) (s .args .layout) (s .args .numbers .now) (s .pre .0) (s .pre .1)
-          (known .entry5 .given .1),
-    )
+append-requires-3 : tie.Need-append-requires-3
+append-requires-3 c κs = search needs
 
 same-length-4 : tie.Need-same-length-4
 same-length-4 c = search needs
@@ -102,16 +89,35 @@ returns-5 c =
     let appended = c .before .before in
     let known = appended .before .before .before in
     let s = start (known .before .before) in
-    let t = appended .append5 .ensures in
+    let t = appended .append3 .ensures in
     coupon-adds (s .args .entry) (s .args .layout) (s .args .numbers .now) (s .pre .0) (s .pre .1)
     (known .entry5 .given .1) (t .0) (t .1)
+
+enum-known-entry-6 : tie.Need-enum-known-entry-6
+enum-known-entry-6 c = search needs
+
+add-elapsed-requires : tie.Need-add-elapsed-requires
+add-elapsed-requires c κs =
+    let known = c .before .before in
+    let s = start (known .before .before) in
+    (s .pre .0, room-as (known .entry6 .given .1) (s .args .layout) (s .args .numbers .now) (s .pre .1))
+
+same-length-5 : tie.Need-same-length-5
+same-length-5 c = search needs
+
+returns-6 : tie.Need-returns-6
+returns-6 c =
+    let called = c .before .before in
+    let known = called .before .before .before in
+    let s = start (known .before .before) in
+    leaves-as (known .entry6 .given .1) (s .args .layout) (s .args .numbers .now) (called .add-elapsed .ensures)
 
 pub add-spec : {M : Type 1} → statement M
 add-spec =
     tie.close
     (tie.spec
     enum-known-entry
-    pool-figures-requires
+    add-pool-requires
     returns
     enum-known-entry-2
     append-requires
@@ -122,11 +128,14 @@ add-spec =
     same-length-2
     returns-3
     enum-known-entry-4
-    append-requires-3
-    append-requires-4
+    add-step-requires
     same-length-3
     returns-4
     enum-known-entry-5
-    append-requires-5
+    append-requires-3
     same-length-4
-    returns-5)
+    returns-5
+    enum-known-entry-6
+    add-elapsed-requires
+    same-length-5
+    returns-6)
