@@ -1,33 +1,39 @@
 -- All fractions 0 change no rule, and no call on rows that both ceilings tell alike.
 use Prim.Native.Nat.{ℕ, zero, suc, pred, _+_, _-_, _*_}
 use mathlib.Core.Path.{_≡_, refl, ap, sym, _∙_, fun-ext}
-use mathlib.Core.List.{List, [], _∷_}
+use mathlib.Core.Bool.{Bool, true, false}
+use mathlib.Core.List.{List}
 use native.Mathlib.Nat.{add-zero, zero-mul}
 use lib.ListN.{getD, replicate}
 use Rattle.cash.specs.Units.{B, half}
 use Rattle.sheet.specs.Terms.{Terms}
-use Rattle.tree.specs.Backward.{Leg}
+use Rattle.sheet.specs.Brought.{Brought}
 use Rattle.tree.specs.Sheet.{elapsedOf, NoneElapsed, outstandingOf, defaultOf, premiumOf}
 use Rattle.tree.specs.DatesOnly.{datesOnly}
 use Rattle.tree.proofs.DatesOnly.{by-dates}
 use Rattle.rows.specs.Rows.{Rows, nodeIn, rolledBack}
+use Rattle.refusals.specs.Tests.{poolBad, Test, first, sheetTests}
+use Rattle.refusals.specs.DatesOnly.{datesOnlyTests}
 use Rattle.refusals.proofs.DatesOnly.{refusals-by-dates}
+use Rattle.walk.specs.declared.Walk.{Walk}
 use Rattle.walk.specs.CallRules.{backwardRule, BackStep}
 use Rattle.walk.specs.Calls.{rolls}
+use Rattle.walk.specs.Manners.{CeilingsAsked, CallsAlike}
 use Rattle.walk.specs.DatesOnly.{ZeroFractions, RuleByDates, datesOnlyManner, SoiledAlike, ZeroFractionCalls}
 use Rattle.walk.proofs.Manners.{calls-alike}
 
-zero-at : (n i : ℕ) → _≡_ {A = ℕ} (getD (replicate n 0) i 0) 0
-zero-at zero i = refl
-zero-at (suc n) zero = refl
-zero-at (suc n) (suc i) = zero-at n i
+-- As many zeros as one likes.
+pub zeros-none : (x : Terms) (n : ℕ) → x .elapsed ≡ replicate n 0 → (i : ℕ) → getD (x .elapsed) i 0 ≡ 0
+zeros-none x n z i = ap (λ (l : List ℕ). getD l i 0) z ∙ zero-at n i
+  where
+    zero-at : (n i : ℕ) → _≡_ {A = ℕ} (getD (replicate n 0) i 0) 0
+    zero-at zero i = refl
+    zero-at (suc n) zero = refl
+    zero-at (suc n) (suc i) = zero-at n i
 
-pub zero-fraction : (x : Terms) → ZeroFractions x → (i : ℕ) → getD (x .elapsed) i 0 ≡ 0
-zero-fraction x z i = ap (λ (l : List ℕ). getD l i 0) z ∙ zero-at (x .steps) i
-
-pub none-elapsed : (x : Terms) → ZeroFractions x → NoneElapsed x
+pub zeros-elapsed : (x : Terms) (n : ℕ) → x .elapsed ≡ replicate n 0 → NoneElapsed x
 unfolding elapsedOf
-none-elapsed x z s = zero-fraction x z (pred s)
+zeros-elapsed x n z s = zeros-none x n z (pred s)
 
 pub rule-by-dates : RuleByDates
 unfolding half B
@@ -39,17 +45,32 @@ rule-by-dates x z i old new s j k p q =
     ∙ ap (λ y. backwardRule x i k (nodeIn x (old .premiums) j (suc k) + y) (nodeIn x (old .premiums) j k + half (getD (x .accruals) i 0 * outstandingOf x j k))) (add-zero _)
   where
     none : (d : ℕ) → half (getD (x .elapsed) i 0 * d) ≡ 0
-    none d = ap (λ e. half (e * d)) (zero-fraction x z i) ∙ rw (zero-mul d) refl
+    none d = ap (λ e. half (e * d)) (zeros-none x (x .steps) z i) ∙ rw (zero-mul d) refl
+
+-- A pool outside its limits is refused before any list is looked at, so there it need not be the right number of zeros.
+module _ (x : Brought) (n : ℕ) (zeros : x .sheet .elapsed ≡ replicate n 0) (enough : poolBad (x .sheet) ≡ false → n ≡ x .sheet .steps) where
+  checks-by-dates : (lent : Bool) (more : List Test) → first (sheetTests x lent more) ≡ first (datesOnlyTests x lent more)
+  unfolding sheetTests datesOnlyTests first
+  checks-by-dates lent more = go (poolBad (x .sheet)) refl
+    where
+      go : (b : Bool) → poolBad (x .sheet) ≡ b → first (sheetTests x lent more) ≡ first (datesOnlyTests x lent more)
+      go true e = rw e refl
+      go false e = refusals-by-dates x (zeros ∙ ap (λ (k : ℕ). replicate k 0) (enough e)) lent more
+
+  pub calls-by-zeros : (Lent : List ℕ → Walk → Rows → Type 0) →
+      ((register : List ℕ) (walk : Walk) (rows : Rows) → Lent register walk rows → CeilingsAsked x register walk rows → SoiledAlike (x .sheet) (walk .position) rows) →
+      CallsAlike datesOnlyManner x Lent
+  unfolding datesOnlyManner rolls
+  calls-by-zeros Lent alike =
+      calls-alike datesOnlyManner x Lent checks-by-dates alike
+      (λ i c rows t. record {
+        defaults = rolledBack (x .sheet) (defaultOf (x .sheet)) i c (rows .defaults);
+        premiums = rolledBack (x .sheet) (legs t) i c (rows .premiums);
+      })
+      (λ i. refl)
+    where
+      legs : premiumOf (x .sheet) ≡ datesOnly (x .sheet)
+      legs = fun-ext (by-dates (x .sheet) (zeros-elapsed (x .sheet) n zeros))
 
 pub calls-by-dates : ZeroFractionCalls
-unfolding datesOnlyManner rolls
-calls-by-dates x z =
-    calls-alike datesOnlyManner x (SoiledAlike (x .sheet)) (refusals-by-dates x z) (λ i rows l. l)
-    (λ i c rows t. record {
-      defaults = rolledBack (x .sheet) (defaultOf (x .sheet)) i c (rows .defaults);
-      premiums = rolledBack (x .sheet) (legs t) i c (rows .premiums);
-    })
-    (λ i. refl)
-  where
-    legs : premiumOf (x .sheet) ≡ datesOnly (x .sheet)
-    legs = fun-ext (by-dates (x .sheet) (none-elapsed (x .sheet) z))
+calls-by-dates x z = calls-by-zeros x (x .sheet .steps) z (λ e. refl) _ (λ register walk rows l e. l)

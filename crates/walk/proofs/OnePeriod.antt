@@ -72,7 +72,7 @@ module _ (x : Terms) (one : x .starts ≡ 1 ∷ []) where
 pub calls-steady : OnePeriodCalls
 unfolding steadyManner rolls distributionRow
 calls-steady x one =
-    calls-alike steadyManner x (λ i rows. Unit {0}) (refusals-steady x one) (λ i rows l. refl)
+    calls-alike steadyManner x (λ register walk rows. Unit {0}) (refusals-steady x one) (λ register walk rows l e. refl)
     (λ i c rows t. record {
       defaults = rolled-back-is (x .sheet) one (defaultOf (x .sheet)) i c (rows .defaults) t;
       premiums = rolled-back-is (x .sheet) one (premiumOf (x .sheet)) i c (rows .premiums) t;

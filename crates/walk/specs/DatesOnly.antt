@@ -52,4 +52,5 @@ abbrev pub SoiledAlike : Terms → ℕ → Rows → Type 0
 SoiledAlike x i rows = soiled x i (rows .defaults) (rows .premiums) ≡ datesOnlySoiled x i rows
 
 abbrev pub ZeroFractionCalls : Type 0
-ZeroFractionCalls = (x : Brought) → ZeroFractions (x .sheet) → CallsAlike datesOnlyManner x (SoiledAlike (x .sheet))
+ZeroFractionCalls = (x : Brought) → ZeroFractions (x .sheet) →
+    CallsAlike datesOnlyManner x (λ register walk rows. SoiledAlike (x .sheet) (walk .position) rows)

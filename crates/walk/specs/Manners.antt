@@ -11,8 +11,9 @@ use Rattle.sheet.specs.Terms.{Terms}
 use Rattle.sheet.specs.Brought.{Brought}
 use Rattle.rows.specs.Rows.{Rows}
 use Rattle.refusals.specs.declared.Refusal.the-variants.{Withdrawn, Unissued, NoWalk, OverCeiling, OutOfSteps, OffTree, FlatHedge, OffScale}
+use Rattle.refusals.specs.declared.Found.the-variants.{Fine}
 use Rattle.refusals.specs.Tests.{Test, first}
-use Rattle.admission.specs.LentTests.{rowsBad, rowBad, isWithdrawn, isUnissued, offWalk}
+use Rattle.admission.specs.LentTests.{rowsBad, rowBad, isWithdrawn, isUnissued, offWalk, tenTests}
 use Rattle.figures.specs.declared.Answer.the-variants.{Done, Position, Ratio}
 use Rattle.figures.specs.Nodes.{jump}
 use Rattle.figures.specs.Replies.{worth}
@@ -77,14 +78,19 @@ forwardBy m x register row i =
     orForwardOutcome (first (tenBy m x register (rowBad x register row) ((ltb (x .sheet .steps) i, OutOfSteps) ∷ []))) row
     (record { answer = Done; row = m .spread (x .sheet) i })
 
--- Each of our calls that brings the sheet x does what it does in the manner m, accepted or refused; those that ask for 12 where rows are lent that
--- keep a condition.
-pub record CallsAlike (m : Manner) (x : Brought) (Lent : ℕ → Rows → Type 0) : Type 0 where
+-- The checks before 12 are passed, so 12 is asked.
+abbrev pub CeilingsAsked : Brought → List ℕ → Walk → Rows → Type 0
+CeilingsAsked x register walk rows =
+    first (tenTests x register (rowsBad x register rows) ((offWalk x (walk .«open») (walk .number) (walk .position), NoWalk) ∷ [])) ≡ Fine
+
+-- Each of our calls that brings the sheet x does what it does in the manner m, accepted or refused; those that ask for 12 do where they are lent rows
+-- of a kind.
+pub record CallsAlike (m : Manner) (x : Brought) (Lent : List ℕ → Walk → Rows → Type 0) : Type 0 where
   pub opening : (register : List ℕ) (walk : Walk) (rows : Rows) → openCall x register walk rows ≡ openBy m x register walk rows
-  pub back : (register : List ℕ) (walk : Walk) (rows : Rows) (c : ℕ) → Lent (walk .position) rows →
+  pub back : (register : List ℕ) (walk : Walk) (rows : Rows) (c : ℕ) → Lent register walk rows →
       backCall x register walk rows c ≡ backBy m x register walk rows c
-  pub value : (register : List ℕ) (walk : Walk) (rows : Rows) (j k : ℕ) → Lent (walk .position) rows →
+  pub value : (register : List ℕ) (walk : Walk) (rows : Rows) (j k : ℕ) → Lent register walk rows →
       valueCall x register walk rows j k ≡ valueBy m x register walk rows j k
-  pub ratio : (register : List ℕ) (walk : Walk) (rows : Rows) (j k : ℕ) → Lent (walk .position) rows →
+  pub ratio : (register : List ℕ) (walk : Walk) (rows : Rows) (j k : ℕ) → Lent register walk rows →
       ratioCall x register walk rows j k ≡ ratioBy m x register walk rows j k
   pub forward : (register row : List ℕ) (i : ℕ) → forwardCall x register row i ≡ forwardBy m x register row i

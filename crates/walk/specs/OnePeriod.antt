@@ -58,4 +58,4 @@ steadyManner =
 
 -- Each call that brings a sheet with one period goes by that, whatever rows it is lent.
 abbrev pub OnePeriodCalls : Type 0
-OnePeriodCalls = (x : Brought) → x .sheet .starts ≡ 1 ∷ [] → CallsAlike steadyManner x (λ i rows. Unit {0})
+OnePeriodCalls = (x : Brought) → x .sheet .starts ≡ 1 ∷ [] → CallsAlike steadyManner x (λ register walk rows. Unit {0})

@@ -1,0 +1,72 @@
+-- A deck by calls of any manner: what it prints, and the register that it leaves.
+use Prim.Native.Nat.{ℕ, zero, suc, _+_}
+use mathlib.Core.Bool.{true, false}
+use mathlib.Core.List.{List, [], _++_}
+use lib.Dec.{ltb}
+use lib.ListN.{length, take}
+use Rattle.register.specs.Register.{issueAnswer, issueLeaves, withdrawAnswer, withdrawLeaves}
+use Rattle.commands.specs.declared.Command.{Command}
+use Rattle.commands.specs.declared.Command.the-variants.{Enter, Act, Unknown, CutShort}
+use Rattle.commands.specs.declared.Order.{Order}
+use Rattle.commands.specs.declared.Order.the-variants.{Issue, Withdraw, Open, Back, Value, Delta, Forward}
+use Rattle.commands.specs.Commands.{commandAt, orderSize}
+use Rattle.walk.specs.Manners.{Manner, openBy, backBy, valueBy, ratioBy, forwardBy}
+use Rattle.machine.specs.Machine.{Machine, machineOn}
+use Rattle.machine.specs.Rooms.{lentRows, leftInRooms, leftInRow, countSaid, saidBeside}
+use Rattle.machine.specs.Transitions.{Transition, registerTransition, callTransition, forwardTransition}
+use Rattle.render.specs.Lines.{orderLine, deckLine}
+use Rattle.listings.specs.Effects.{Effect, stop, goOn, entryEffect}
+
+-- An order by calls of the manner.
+unfoldable pub mannerTransition : Manner → Order → Machine → Transition
+mannerTransition n (Issue y) m = registerTransition m (issueAnswer (m .register) y) (issueLeaves (m .register) y)
+mannerTransition n (Withdraw y) m = registerTransition m (withdrawAnswer (m .register) y) (withdrawLeaves (m .register) y)
+mannerTransition n Open m =
+    let x = m .draft .brought in
+    callTransition m (leftInRooms x (m .rooms) (openBy n x (m .register) (m .walk) (lentRows x (m .rooms))))
+mannerTransition n (Back c) m =
+    let x = m .draft .brought in
+    callTransition m (leftInRooms x (m .rooms) (backBy n x (m .register) (m .walk) (lentRows x (m .rooms)) c))
+mannerTransition n (Value j k) m =
+    let x = m .draft .brought in
+    callTransition m (leftInRooms x (m .rooms) (valueBy n x (m .register) (m .walk) (lentRows x (m .rooms)) j k))
+mannerTransition n (Delta j k) m =
+    let x = m .draft .brought in
+    callTransition m (leftInRooms x (m .rooms) (ratioBy n x (m .register) (m .walk) (lentRows x (m .rooms)) j k))
+mannerTransition n (Forward i k) m =
+    let x = m .draft .brought in
+    let o = leftInRow x (m .row) (forwardBy n x (m .register) (take (x .sheet .names + 1) (m .row)) i) in
+    forwardTransition m (saidBeside (countSaid (o .answer) (o .row) (x .sheet .names) k) (o .row))
+
+-- A command by them. An entry makes no call.
+unfoldable pub mannerEffect : Manner → Command → ℕ → Machine → Effect
+mannerEffect n Unknown at m = stop (deckLine 18 at)
+mannerEffect n CutShort at m = stop (deckLine 19 at)
+mannerEffect n (Enter e) at m = entryEffect e at m
+mannerEffect n (Act o) at m = goOn (orderLine o (mannerTransition n o m .said)) (at + orderSize o) (mannerTransition n o m .next)
+
+-- The listing by them.
+unfoldable pub mannerListingFrom : Manner → ℕ → List ℕ → ℕ → Machine → List ℕ
+mannerListingFrom n zero deck at m = []
+mannerListingFrom n (suc commands) deck at m =
+    elim (ltb at (length deck)) [
+      | true ↦ elim (mannerEffect n (commandAt deck at) at m) [ stop text ↦ text | goOn text next t ↦ text ++ mannerListingFrom n commands deck next t ]
+      | false ↦ []
+    ]
+
+unfoldable pub mannerListing : Manner → List ℕ → List ℕ → List ℕ
+mannerListing n register deck =
+    elim (ltb 65536 (length deck)) [ true ↦ deckLine 20 65536 | false ↦ mannerListingFrom n (length deck) deck 0 (machineOn register) ]
+
+-- The register by them.
+unfoldable pub mannerRegisterFrom : Manner → ℕ → List ℕ → ℕ → Machine → List ℕ
+mannerRegisterFrom n zero deck at m = m .register
+mannerRegisterFrom n (suc commands) deck at m =
+    elim (ltb at (length deck)) [
+      | true ↦ elim (mannerEffect n (commandAt deck at) at m) [ stop text ↦ m .register | goOn text next t ↦ mannerRegisterFrom n commands deck next t ]
+      | false ↦ m .register
+    ]
+
+unfoldable pub mannerRegister : Manner → List ℕ → List ℕ → List ℕ
+mannerRegister n register deck =
+    elim (ltb 65536 (length deck)) [ true ↦ register | false ↦ mannerRegisterFrom n (length deck) deck 0 (machineOn register) ]
