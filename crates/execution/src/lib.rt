@@ -55,7 +55,7 @@ fn refuse(number: u8, from: Progress, out: &mut [u8]) -> Progress
     }
 }
 
-// Commands 01 to 05 add to the sheet and print nothing; 20 where there is no room.
+// Commands 01 to 05 and 0D add to the sheet and print nothing; 20 where there is no room.
 fn enter(entry: Entry, from: Progress, numbers: &mut [u64], out: &mut [u8]) -> Progress
     requires { ⌜ from .at < 2 ^ 63 ⌝ }
     requires { ⌜ LayoutLimits (from .layout) (now numbers) ⌝ }

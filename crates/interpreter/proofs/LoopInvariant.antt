@@ -14,7 +14,8 @@ use Rattle.walk.specs.Answers.{fresh}
 use Rattle.sheet.specs.Spans.{listIn}
 use Rattle.sheet.specs.Brought.{brought}
 use Rattle.entries.specs.Draft.{noPool, emptyDraft}
-use Rattle.entries.specs.Layouts.{emptyLayout, LayoutLimits}
+use Rattle.entries.specs.Layouts.{elapsedAt, LayoutLimits, Blank}
+use Rattle.entries.proofs.Entering.{empty-limits}
 use Rattle.machine.specs.Machine.{Machine, machineOf}
 use Rattle.execution.specs.declared.Progress.{Progress}
 use Rattle.listings.specs.Effects.{stop, goOn, effectOf}
@@ -40,23 +41,22 @@ abbrev pub Finished : (all left before out : List ℕ) → Progress → List ℕ
 Finished all left before out p register = Wrote before 0 all out (p .end) × (p .end ≤ length before) × (register ≡ left)
 
 -- the one start stands behind the room for entries
-one-start : (numbers : List ℕ) → length numbers ≡ 7444 → getD numbers 7443 0 ≡ 1 → take 1 (drop 7443 numbers) ≡ 1 ∷ []
+one-start : (numbers : List ℕ) → length numbers ≡ elapsedAt + 3650 → getD numbers 7443 0 ≡ 1 → take 1 (drop 7443 numbers) ≡ 1 ∷ []
 one-start numbers long one =
     let h : 7443 < length numbers = omega arith in
     ap (take 1) (drop-cons numbers 7443 0 h) ∙ ap (λ (a : ℕ). a ∷ []) one
 
 -- the machine at the start has no entries but that
-start-machine : (numbers register ds ps row : List ℕ) → length numbers ≡ 7444 → getD numbers 7443 0 ≡ 1 →
+start-machine : (numbers register ds ps row : List ℕ) → length numbers ≡ elapsedAt + 3650 → getD numbers 7443 0 ≡ 1 →
     machineAt startProgress numbers register ds ps row ≡ machineOf emptyDraft register fresh ds ps row
 unfolding listIn
 start-machine numbers register ds ps row long one =
-    λ t. machineOf (record { pooled = false; brought = brought noPool [] (one-start numbers long one t) [] [] [] [] }) register fresh ds ps row
+    λ t. machineOf (record { pooled = false; elapsed = []; brought = brought noPool [] (one-start numbers long one t) [] [] [] [] [] }) register fresh ds ps row
 
-pub start-limits : {p : Progress} (numbers : List ℕ) → p ≡ startProgress → length numbers ≡ 7444 → LayoutLimits (p .layout) numbers
-start-limits numbers e long =
-    let h : LayoutLimits emptyLayout numbers = omega arith in subst (λ (q : Progress). LayoutLimits (q .layout) numbers) (sym e) h
+pub start-limits : {p : Progress} (numbers : List ℕ) → p ≡ startProgress → length numbers ≡ elapsedAt + 3650 → Blank numbers → LayoutLimits (p .layout) numbers
+start-limits numbers e long blank = subst (λ (q : Progress). LayoutLimits (q .layout) numbers) (sym e) (empty-limits numbers long blank)
 
-pub holds-at-start : (deck out numbers register ds ps row : List ℕ) {p : Progress} → p ≡ startProgress → length numbers ≡ 7444 → getD numbers 7443 0 ≡ 1 →
+pub holds-at-start : (deck out numbers register ds ps row : List ℕ) {p : Progress} → p ≡ startProgress → length numbers ≡ elapsedAt + 3650 → getD numbers 7443 0 ≡ 1 →
     Invariant (listingFrom (length deck) deck 0 (machineOf emptyDraft register fresh ds ps row))
     (registerFrom (length deck) deck 0 (machineOf emptyDraft register fresh ds ps row)) deck out out p (machineAt p numbers register ds ps row)
 holds-at-start deck out numbers register ds ps row e long one =

@@ -5,7 +5,9 @@ use mathlib.Core.List.{List}
 use native.Mathlib.Omega.{arith}
 use Rattle.listings.proofs.Laws.{oversized, oversized-left, sized, sized-left}
 use Rattle.deck.proofs.Printing.{room-least, room-sized, no-room, no-room-left, left, keeps, printed}
-use lib.ListN.{length}
+use lib.Dec.{lit<}
+use lib.ListN.{length, replicate}
+use Rattle.entries.proofs.Blanks.{blank-first, blank-set}
 use Rattle.listings.specs.Withdrawals.{KeepsWithdrawn}
 use Rattle.deck.specs.Printing.{room as roomOf, registerLeft}
 use borrow.Author.Needs.{needs}
@@ -82,7 +84,7 @@ interpret-requires c κs =
     let e = past-tests c in
     let s = start (e .before .before) in
     let room = room-sized (length (s .args .deck .now)) (omega (arith, e .if2 .left)) in
-    ((search needs, refl), (search needs, omega (arith, e .before .if1 .left, e .before .before .room .ensures, room)))
+    ((search needs, refl, blank-set 7443 1 (replicate 11094 0) (lit< tt) (blank-first 11094)), (search needs, omega (arith, e .before .if1 .left, e .before .before .room .ensures, room)))
 
 same-length-2 : tie.Need-same-length-2
 same-length-2 c = search needs

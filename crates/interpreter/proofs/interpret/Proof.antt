@@ -45,7 +45,7 @@ loop-holds c =
     let s = c .before .before .before .before .before .before .before .before in (
       holds-at-start (s .args .deck .now) (s .args .out .now) (s .args .numbers .now) (s .args .register .now) (s .args .defaults .now)
           (s .args .premiums .now) (s .args .row .now) (c .start .ensures) (s .pre .0 .0) (s .pre .0 .1),
-      start-limits (s .args .numbers .now) (c .start .ensures) (s .pre .0 .0),
+      start-limits (s .args .numbers .now) (c .start .ensures) (s .pre .0 .0) (s .pre .0 .2),
       s .pre .1 .0,
       refl,
     )
@@ -59,7 +59,7 @@ execute-requires c κs =
 
 same-length : tie.Need-same-length Inv-loop μ-loop
 same-length c =
-    executed (c .before) .execute .ensures .0 .long ∙ sym (start (at-loop (executed (c .before))) .pre .0 .0)
+    executed (c .before) .execute .ensures .0 .placed .long ∙ sym (start (at-loop (executed (c .before))) .pre .0 .0)
 
 same-length-2 : tie.Need-same-length-2 Inv-loop μ-loop
 same-length-2 c =
@@ -111,7 +111,7 @@ loop-again c =
 
 same-length-7 : tie.Need-same-length-7 Inv-loop μ-loop
 same-length-7 c =
-    c .before .before .loop .inv .1 .long ∙ sym (start (c .before .before) .pre .0 .0)
+    c .before .before .loop .inv .1 .placed .long ∙ sym (start (c .before .before) .pre .0 .0)
 
 same-length-8 : tie.Need-same-length-8 Inv-loop μ-loop
 same-length-8 c =
