@@ -12,11 +12,12 @@ pub(super) struct Told {
 
 const ISSUE: u8 = 0x06;
 const WITHDRAW: u8 = 0x07;
+const FORWARD: u8 = 0x0C;
 
 /// The bytes of a command with its operands, by its first byte.
 fn length(command: u8) -> Option<usize> {
     // 00 is no command.
-    const LENGTHS: [usize; 13] = [0, 10, 5, 5, 9, 5, 2, 2, 1, 3, 3, 3, 4];
+    const LENGTHS: [usize; 14] = [0, 10, 5, 5, 9, 5, 2, 2, 1, 3, 3, 3, 4, 5];
     let length = LENGTHS.get(usize::from(command)).copied()?;
     (length > 0).then_some(length)
 }
@@ -48,7 +49,8 @@ fn next_call<'a>(rest: &mut &'a [u8]) -> Option<&'a [u8]> {
         let length = length(*rest.first()?)?;
         let (command, behind) = rest.split_at_checked(length)?;
         *rest = behind;
-        if command[0] >= ISSUE {
+        // 0D, an elapsed fraction, is an entry behind the calls.
+        if (ISSUE..=FORWARD).contains(&command[0]) {
             return Some(command);
         }
     }
