@@ -1,5 +1,5 @@
-//! What `callers/c/unequal.c` and `callers/c/periods.c` print is what the
-//! model says of their sheets.
+//! What `callers/c/unequal.c`, `callers/c/periods.c` and
+//! `callers/c/elapsed.c` print is what the model says of their sheets.
 
 use lavroudem_model::sheet::{check, Sheet};
 use lavroudem_model::tree::{
@@ -10,6 +10,7 @@ use std::fmt::Write;
 
 const UNEQUAL: &str = include_str!("../../callers/unequal.stdout");
 const PERIODS: &str = include_str!("../../callers/periods.stdout");
+const ELAPSED: &str = include_str!("../../callers/elapsed.stdout");
 
 /// No two of names, steps and tranches + 1 are the same.
 fn unequal_sheet() -> Sheet {
@@ -30,19 +31,20 @@ fn unequal_sheet() -> Sheet {
 }
 
 /// In the order of the spans.
-fn lengths(sheet: &Sheet) -> [usize; 6] {
+fn lengths(sheet: &Sheet) -> [usize; 7] {
     [
         sheet.attachments.len(),
         sheet.starts.len(),
         sheet.hazards.len(),
         sheet.discounts.len(),
         sheet.accruals.len(),
+        sheet.elapsed.len(),
         sheet.coupons.len(),
     ]
 }
 
 /// Length and place of lists that stand one after the other.
-fn spans(lengths: [usize; 6]) -> String {
+fn spans(lengths: [usize; 7]) -> String {
     let mut at = 0;
     let mut line = String::new();
     for length in lengths {
@@ -86,7 +88,7 @@ fn chances(sheet: &Sheet, steps: usize) -> String {
 fn the_example_of_unequal_lists_prints_the_figures_of_the_model() {
     let sheet = unequal_sheet();
     assert_eq!(check(&sheet), Ok(()));
-    let mut text = spans([5, 4, 2, 11, 3, 7]);
+    let mut text = spans([5, 4, 2, 11, 3, 6, 7]);
     text += &spans(lengths(&sheet));
     let mut rows = Rows::zero(&sheet);
     let mut position = sheet.steps;
@@ -123,4 +125,62 @@ fn the_example_of_two_periods_prints_the_figures_of_the_model() {
     let (number, word) = (refusal.number(), refusal.word());
     writeln!(text, "starts 1 and 1: refusal {number}, {word}").unwrap();
     assert_eq!(PERIODS, text);
+}
+
+/// Premium is paid at steps 2 and 3, for half a year and for a quarter.
+fn earning_sheet(elapsed: [u64; 3]) -> Sheet {
+    Sheet {
+        number: 7,
+        names: 2,
+        steps: 3,
+        tranches: 1,
+        recovery: 0,
+        attachments: vec![0, 500_000_000],
+        starts: vec![1],
+        hazards: vec![100_000_000, 200_000_000],
+        discounts: vec![1_000_000_000, 800_000_000, 1_000_000_000],
+        accruals: vec![0, 500_000_000, 250_000_000],
+        elapsed: elapsed.to_vec(),
+        coupons: vec![1_000_000, 500_000],
+    }
+}
+
+/// The premium legs on the way to the root, and the hedge ratio there.
+fn premiums_to_root(sheet: &Sheet) -> String {
+    let mut lines = String::new();
+    let mut rows = Rows::zero(sheet);
+    let mut position = sheet.steps;
+    while position > 0 {
+        position = roll_back(sheet, &mut rows, position, 1);
+        let tranche = premium_leg(sheet, &rows, 0, 0);
+        let index = premium_leg(sheet, &rows, sheet.index(), 0);
+        writeln!(
+            lines,
+            "step {position}: premium leg {tranche}, of the index {index}"
+        )
+        .unwrap();
+    }
+    let ratio = hedge_ratio(sheet, &rows, 0, 0).unwrap();
+    writeln!(lines, "hedge ratio: {ratio} millionths").unwrap();
+    lines
+}
+
+/// Between its two walks the example tries a fraction that is too high.
+#[test]
+fn the_example_of_elapsed_fractions_prints_the_figures_of_the_model() {
+    let mut sheet = earning_sheet([250_000_000, 500_000_000, 125_000_000]);
+    assert_eq!(check(&sheet), Ok(()));
+    let mut text = spans(lengths(&sheet));
+    text += &premiums_to_root(&sheet);
+    sheet.elapsed[2] = 250_000_001;
+    let refusal = check(&sheet).unwrap_err();
+    let (number, word) = (refusal.number(), refusal.word());
+    let fraction = sheet.elapsed[2];
+    writeln!(
+        text,
+        "elapsed {fraction} at step 3: refusal {number}, {word}"
+    )
+    .unwrap();
+    text += &premiums_to_root(&earning_sheet([0; 3]));
+    assert_eq!(ELAPSED, text);
 }
