@@ -224,7 +224,7 @@ not-halfToEven r = omega (arith, ap (figure 0) (r .ratio sheet live (walkAt 0) (
 abbrev halves : Brought
 halves =
     brought (record { names = 1; steps = 2; tranches = 1; recovery = 0; number = 7 })
-    (0 ∷ 5 ∷ []) (1 ∷ []) (50_000 ∷ []) (1 ∷ 1 ∷ []) (1 ∷ 1 ∷ []) (0 ∷ 0 ∷ [])
+    (0 ∷ 5 ∷ []) (1 ∷ []) (50_000 ∷ []) (1 ∷ 1 ∷ []) (1 ∷ 1 ∷ []) (0 ∷ 0 ∷ []) (0 ∷ 0 ∷ [])
 
 not-movesDown : Rules movesDown → ⊥
 unfolding computed distributionBy
@@ -318,7 +318,7 @@ factor-needed =
       within = limits (unitsCatalogue .sheet 5) false .0 refl .0;
       walked = record { opened = refl; walked = refl; own = refl };
       spanned-walked = record { opened = refl; walked = refl; own = refl };
-      dates = refl;
+      halves = refl;
       defaults = λ n. le→leb _ _ (n .below);
       premiums = λ n. le→leb _ _ (n .below);
     }
@@ -330,7 +330,7 @@ index-factor-needed =
       within = limits (sliversCatalogue .sheet 5) false .0 refl .0;
       points = record { first = refl; last = refl };
       walked = record { opened = refl; walked = refl; own = refl };
-      dates = refl;
+      halves = refl;
       premiums = λ n. le→leb _ _ (n .below);
     }
 

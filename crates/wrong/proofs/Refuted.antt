@@ -153,6 +153,7 @@ small recovery attachments =
       hazards = 0 ∷ [];
       discounts = 1 ∷ [];
       accruals = 1 ∷ [];
+      elapsed = 0 ∷ [];
     }) (0 ∷ 0 ∷ [])
 
 not-allRefused : Demand3 allRefused → ⊥

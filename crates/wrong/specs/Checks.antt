@@ -130,9 +130,9 @@ swapped m n l =
 abbrev pub exchanging : SheetCall → ℕ → ℕ → Engine
 exchanging o m n = judging o (λ a. swapped m n)
 
--- Document 01's checks of each call, in order, with T-06's.
+-- Document 01's checks of each call, in order, with those of T-06 and T-01.
 abbrev pub numbersToTen : List ℕ → List ℕ
-numbersToTen more = 1 ∷ 2 ∷ 3 ∷ 4 ∷ 25 ∷ 5 ∷ 6 ∷ 7 ∷ 8 ∷ 9 ∷ 10 ∷ more
+numbersToTen more = 1 ∷ 2 ∷ 3 ∷ 4 ∷ 25 ∷ 5 ∷ 6 ∷ 7 ∷ 21 ∷ 8 ∷ 9 ∷ 10 ∷ more
 
 abbrev pub checks : SheetCall → List ℕ
 checks Open = numbersToTen []
@@ -145,9 +145,9 @@ abbrev pub has : ℕ → List ℕ → Bool
 has n [] = false
 has n (m ∷ l) = eqb m n || has n l
 
--- Where a check stands in that order: 25 between 4 and 5.
+-- Where a check stands in that order: 25 between 4 and 5, 21 between 7 and 8.
 abbrev pub rank : ℕ → ℕ
-rank n = cond (eqb n 25) 9 (2 * n)
+rank n = cond (eqb n 25) 9 (cond (eqb n 21) 15 (2 * n))
 
 -- A call checks m and, later, n, and can break both: no number is both withdrawn and unissued.
 abbrev pub breakable : SheetCall → ℕ → ℕ → Bool
@@ -165,7 +165,7 @@ brokenFrom m n =
     (brought
     (record { names = 1; steps = 1; tranches = from m 1 1 9; recovery = from m 3 1_000_000_000 1_000_000_001; number = 7 })
     (from m 4 0 5 ∷ 5 ∷ []) (from m 25 1 2 ∷ []) (from m 5 0 1_000_000_001 ∷ from m 2 [] (0 ∷ [])) (from m 6 1 0 ∷ []) (from m 7 10 0 ∷ [])
-    (0 ∷ from m 8 1 10_000_001 ∷ []))
+    (from m 21 0 11 ∷ []) (0 ∷ from m 8 1 10_000_001 ∷ []))
     (set blankRegister 7 (from m 10 0xA5 (cond (eqb m 10 || eqb n 10) 0xFF 0x00)))
     (from m 11 (record { «open» = true; number = 7; position = 0 }) fresh)
     (rowsOf (from m 15 (1 ∷ 0 ∷ 0 ∷ 0 ∷ []) (replicate 4 (from m 12 0 1_000_000_000_000))) (from m 15 (0 ∷ 0 ∷ 10 ∷ 0 ∷ []) (replicate 4 0)))
@@ -180,18 +180,19 @@ isForward Value = false
 isForward Ratio = false
 isForward Forward = true
 
--- Lengths, each with what it is to be: 0 attachments, 1 hazards, 2 discounts, 3 accruals, 4 coupons, 5 the register,
--- 6 and 7 the rows of the default and the premium legs; of forward, 6 is its row.
+-- Lengths, each with what it is to be: 0 attachments, 1 hazards, 2 discounts, 3 accruals, 4 elapsed, 5 coupons, 6 the register,
+-- 7 and 8 the rows of the default and the premium legs; of forward, 7 is its row.
 abbrev pub lengths : SheetCall → Inputs → List (ℕ × ℕ)
 lengths o a =
     let x : Terms = a .sheet .sheet in
     (length (x .attachments), x .tranches + 1) ∷ (length (x .hazards), length (x .starts) * x .names) ∷ (length (x .discounts), x .steps)
-    ∷ (length (x .accruals), x .steps) ∷ (length (a .sheet .coupons), x .tranches + 1) ∷ (length (a .register), 256)
+    ∷ (length (x .accruals), x .steps) ∷ (length (x .elapsed), x .steps)
+    ∷ (length (a .sheet .coupons), x .tranches + 1) ∷ (length (a .register), 256)
     ∷ cond (isForward o) ((length (a .row), x .names + 1) ∷ [])
     ((length (a .rows .defaults), (x .tranches + 1) * (x .names + 1)) ∷ (length (a .rows .premiums), (x .tranches + 1) * (x .names + 1)) ∷ [])
 
 abbrev pub places : SheetCall → List ℕ
-places o = 0 ∷ 1 ∷ 2 ∷ 3 ∷ 4 ∷ 5 ∷ 6 ∷ cond (isForward o) [] (7 ∷ [])
+places o = 0 ∷ 1 ∷ 2 ∷ 3 ∷ 4 ∷ 5 ∷ 6 ∷ 7 ∷ cond (isForward o) [] (8 ∷ [])
 
 -- Whether one of them, counted from i, meets a test.
 abbrev pub anyLength : (ℕ → ℕ → ℕ → Bool) → ℕ → List (ℕ × ℕ) → Bool
@@ -210,8 +211,8 @@ resized place longer =
     let list : ℕ → List ℕ → List ℕ = λ i l. cond (eqb i place) (cond longer (l ++ (9 ∷ [])) (take (length l - 1) l)) l in
     inputs
     (brought (record { names = 1; steps = 1; tranches = 1; recovery = 0; number = 7 })
-    (list 0 (0 ∷ 5 ∷ [])) (1 ∷ []) (list 1 (0 ∷ [])) (list 2 (1 ∷ [])) (list 3 (1 ∷ [])) (list 4 (0 ∷ 0 ∷ [])))
-    (list 5 live) (walkAt 1) (rowsOf (list 6 (replicate 4 0)) (list 7 (replicate 4 0))) (list 6 (0 ∷ 0 ∷ [])) 0 0 0
+    (list 0 (0 ∷ 5 ∷ [])) (1 ∷ []) (list 1 (0 ∷ [])) (list 2 (1 ∷ [])) (list 3 (1 ∷ [])) (list 4 (0 ∷ [])) (list 5 (0 ∷ 0 ∷ [])))
+    (list 6 live) (walkAt 1) (rowsOf (list 7 (replicate 4 0)) (list 8 (replicate 4 0))) (list 7 (0 ∷ 0 ∷ [])) 0 0 0
 
 -- ---- 1 and 3 to 8, at their limits, in open
 
@@ -248,7 +249,8 @@ periodsIn least most due =
     let x : Terms = a .sheet .sheet in
     differs (length (x .attachments)) (x .tranches + 1) || (outside least most (length (x .starts)) || differs (length (x .hazards)) (due x))
     || differs (length (x .discounts)) (x .steps) || differs (length (x .accruals)) (x .steps)
-    || differs (length (a .sheet .coupons)) (x .tranches + 1) || rowsBad (a .sheet) (a .register) (a .rows)) Open
+    || differs (length (x .elapsed)) (x .steps) || differs (length (a .sheet .coupons)) (x .tranches + 1)
+    || rowsBad (a .sheet) (a .register) (a .rows)) Open
 
 -- 25: the first start, whether a start does not rise above the one before it, and the most.
 abbrev pub startsIn : (ℕ → Bool) → (ℕ → ℕ → Bool) → (Terms → ℕ) → Engine
@@ -275,40 +277,40 @@ couponsTo most = tested 8 (λ a. any (a .sheet .sheet .tranches + 1) (λ j. ltb 
 abbrev pub pool : ℕ → ℕ → ℕ → Brought
 pool n m r =
     brought (record { names = n; steps = m; tranches = r; recovery = 0; number = 7 })
-    (tab (r + 1) (λ j. j)) (1 ∷ []) (replicate n 0) (replicate m 1) (replicate m 1) (replicate (r + 1) 0)
+    (tab (r + 1) (λ j. j)) (1 ∷ []) (replicate n 0) (replicate m 1) (replicate m 1) (replicate m 0) (replicate (r + 1) 0)
 
 abbrev pub poolAlone : ℕ → ℕ → ℕ → Brought
-poolAlone n m r = brought (record { names = n; steps = m; tranches = r; recovery = 0; number = 7 }) [] [] [] [] [] []
+poolAlone n m r = brought (record { names = n; steps = m; tranches = r; recovery = 0; number = 7 }) [] [] [] [] [] [] []
 
 -- One name and one tranche, and all but one of its terms plain.
-abbrev pub terms : ℕ → ℕ → ℕ → ℕ → ℕ → List ℕ → ℕ → Brought
-terms recovery low high hazard discount accruals coupon =
+abbrev pub terms : ℕ → ℕ → ℕ → ℕ → ℕ → List ℕ → List ℕ → ℕ → Brought
+terms recovery low high hazard discount accruals elapsed coupon =
     brought (record { names = 1; steps = length accruals; tranches = 1; recovery = recovery; number = 7 })
-    (low ∷ high ∷ []) (1 ∷ []) (hazard ∷ []) (replicate (length accruals) discount) accruals (0 ∷ coupon ∷ [])
+    (low ∷ high ∷ []) (1 ∷ []) (hazard ∷ []) (replicate (length accruals) discount) accruals elapsed (0 ∷ coupon ∷ [])
 
 abbrev pub ofRecovery : ℕ → Brought
-ofRecovery y = terms y 0 5 0 1 (1 ∷ []) 0
+ofRecovery y = terms y 0 5 0 1 (1 ∷ []) (0 ∷ []) 0
 
 abbrev pub ofAttachments : ℕ → ℕ → Brought
-ofAttachments low high = terms 0 low high 0 1 (1 ∷ []) 0
+ofAttachments low high = terms 0 low high 0 1 (1 ∷ []) (0 ∷ []) 0
 
 abbrev pub ofHazard : ℕ → Brought
-ofHazard y = terms 0 0 5 y 1 (1 ∷ []) 0
+ofHazard y = terms 0 0 5 y 1 (1 ∷ []) (0 ∷ []) 0
 
 -- One name and sixteen steps with these starts, and as many hazards.
 abbrev pub ofStarts : List ℕ → List ℕ → Brought
 ofStarts starts hazards =
     brought (record { names = 1; steps = 16; tranches = 1; recovery = 0; number = 7 })
-    (0 ∷ 5 ∷ []) starts hazards (replicate 16 1) (replicate 16 1) (0 ∷ 0 ∷ [])
+    (0 ∷ 5 ∷ []) starts hazards (replicate 16 1) (replicate 16 1) (replicate 16 0) (0 ∷ 0 ∷ [])
 
 abbrev pub ofDiscount : ℕ → Brought
-ofDiscount y = terms 0 0 5 0 y (1 ∷ []) 0
+ofDiscount y = terms 0 0 5 0 y (1 ∷ []) (0 ∷ []) 0
 
 abbrev pub ofAccruals : List ℕ → Brought
-ofAccruals l = terms 0 0 5 0 1 l 0
+ofAccruals l = terms 0 0 5 0 1 l (replicate (length l) 0) 0
 
 abbrev pub ofCoupon : ℕ → Brought
-ofCoupon y = terms 0 0 5 0 1 (1 ∷ []) y
+ofCoupon y = terms 0 0 5 0 1 (1 ∷ []) (0 ∷ []) y
 
 -- By an open of a live number, with rows of the right length.
 abbrev pub ByOpen : Engine → Brought → ℕ → Type 0
@@ -384,7 +386,7 @@ clean = rowsOf (replicate 4 0) (replicate 4 0)
 -- The tranche jumps by -1,000,000,000,000 and the index by 1,000,001.
 abbrev pub nearScale : Inputs
 nearScale =
-    inputs (terms 1_000_000_000 0 200_000 0 1 (1_000_000_000 ∷ []) 1) live (walkAt 0)
+    inputs (terms 1_000_000_000 0 200_000 0 1 (1_000_000_000 ∷ []) (0 ∷ []) 1) live (walkAt 0)
     (rowsOf (100_000 ∷ 0 ∷ 0 ∷ 0 ∷ []) (0 ∷ 0 ∷ 1_000_001 ∷ 0 ∷ [])) [] 0 0 0
 
 -- By back, value and hedge ratio, each with the fault in itself; and on the small sheet.
@@ -508,14 +510,15 @@ pub record NoneChecks : Type 0 where
   pub position-most-refused : ByWalking (positionTo (λ x. x .steps - 1)) (walkAt 1) clean 0
   pub position-more : ByWalking (positionTo (λ x. x .steps + 1)) (walkAt 2) clean 11
   pub defaults-unseen : ByWalking defaultsUnseen (walkAt 1) (rowsOf (6 ∷ 0 ∷ 0 ∷ 0 ∷ []) (replicate 4 0)) 12
-  pub premiums-unseen : ByWalking premiumsUnseen (walkAt 1) (rowsOf (replicate 4 0) (1 ∷ 0 ∷ 0 ∷ 0 ∷ [])) 12
+  pub premiums-unseen : ByWalking premiumsUnseen (walkAt 1) (rowsOf (replicate 4 0) (2 ∷ 0 ∷ 0 ∷ 0 ∷ [])) 12
   pub ceiling-without-loss : ByWalking (ceilingsTo trancheUnlost premiumMost) (walkAt 1) (rowsOf (0 ∷ 1 ∷ 0 ∷ 0 ∷ []) (replicate 4 0)) 12
   pub index-ceiling-without-loss : ByWalking (ceilingsTo indexUnlost premiumMost) (walkAt 1) (rowsOf (0 ∷ 0 ∷ 0 ∷ 1 ∷ []) (replicate 4 0)) 12
   -- What a tranche has outstanding in place of what it has left to lose, where all but a unit is recovered: nothing, and all but a unit.
   pub ceiling-of-outstanding : ByWalkCalls (ceilingsTo trancheLeft premiumMost)
-      (inputs (terms 999_999_999 0 1_000_000_000 0 1 (1 ∷ []) 0) live (walkAt 1) (rowsOf (0 ∷ 1 ∷ 0 ∷ 0 ∷ []) (replicate 4 0)) (0 ∷ 0 ∷ []) 0 0 0) 0
-  pub ceiling-of-all-accruals : ByWalking (ceilingsTo defaultMost (λ x i k. sumOf (x .accruals))) (walkAt 1)
-      (rowsOf (replicate 4 0) (1 ∷ 0 ∷ 0 ∷ 0 ∷ [])) 12
+      (inputs (terms 999_999_999 0 1_000_000_000 0 1 (1 ∷ []) (0 ∷ []) 0) live (walkAt 1)
+      (rowsOf (0 ∷ 1 ∷ 0 ∷ 0 ∷ []) (replicate 4 0)) (0 ∷ 0 ∷ []) 0 0 0) 0
+  pub ceiling-of-all-accruals : ByWalking (ceilingsTo defaultMost (λ x i k. sumOf (x .accruals) + (x .names - k) + 2 * (x .steps - i))) (walkAt 1)
+      (rowsOf (replicate 4 0) (2 ∷ 0 ∷ 0 ∷ 0 ∷ [])) 12
   -- 13, 14 and 16
   pub back-more : By Back (stepsTo (λ a. a .walk .position + 1)) 2 0 0 13
   pub forward-most-refused : By Forward (stepsTo (λ a. a .sheet .sheet .steps - 1)) 1 0 0 0

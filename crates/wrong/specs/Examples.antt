@@ -112,6 +112,7 @@ parted =
       hazards = 123_456_789 ∷ 234_567_891 ∷ 345_678_912 ∷ [];
       discounts = 987_654_321 ∷ 976_543_210 ∷ [];
       accruals = 250_000_000 ∷ 253_000_000 ∷ [];
+      elapsed = 0 ∷ 0 ∷ [];
     }) (3 ∷ 2 ∷ 1 ∷ [])
 
 abbrev pub whole : Catalogue
@@ -200,7 +201,7 @@ abbrev pub openedWith : ℕ → ℕ → List ℕ → ℕ → ℕ → ℕ → ℕ
 openedWith names recovery attachments hazard discount accrual coupon =
     ours .opening
     (brought (record { names = names; steps = 1; tranches = 1; recovery = recovery; number = 7 })
-    attachments (1 ∷ []) (hazard ∷ []) (discount ∷ []) (accrual ∷ []) (coupon ∷ 0 ∷ []))
+    attachments (1 ∷ []) (hazard ∷ []) (discount ∷ []) (accrual ∷ []) (0 ∷ []) (coupon ∷ 0 ∷ []))
     live fresh (constantRows 4 0) .said
 
 pub record Refusals : Type 0 where

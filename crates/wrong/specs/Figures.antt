@@ -18,8 +18,8 @@ use Rattle.tree.specs.Backward.{rollNode, Leg}
 use Rattle.tree.specs.Legs.{defaultLeg, premiumLeg}
 use Rattle.sheet.specs.Terms.{Terms}
 use Rattle.sheet.specs.Periods.{begun, periodOf, hazardsInto}
-use Rattle.tree.specs.Sheet.{hazardOf, discountOf, accrualOf, poolLossOf, poolRecoveryOf, lossOf, widthOf, outstandingOf}
-use Rattle.tree.specs.Sheet.{treeOf, defaultOf, premiumOf, dates, WholePool, spanning}
+use Rattle.tree.specs.Sheet.{hazardOf, discountOf, accrualOf, elapsedOf, poolLossOf, poolRecoveryOf, lossOf, widthOf, outstandingOf}
+use Rattle.tree.specs.Sheet.{treeOf, defaultOf, premiumOf, premiumHalves, WholePool, spanning}
 use Rattle.tree.specs.Forward.{same, outflow, fromBelow, pushed, errors}
 use Rattle.tree.specs.Trials.{units, slivers, drifting}
 use Rattle.rows.specs.Tables.{tab}
@@ -34,7 +34,7 @@ use Rattle.walk.specs.OurEngine.{ours}
 use Rattle.walk.specs.CallLists.{ownRows as sameRows, otherRows, issue, opening, back, Catalogue, Run, end}
 use Rattle.walk.specs.Accuracy.{Walked, heldD, heldA}
 use Rattle.walk.specs.Promise.{Rules, Demand3, blankRun}
-use Rattle.wrong.specs.Substitutes.{withSaid, byAnswer, valueBy, forwardBy, backRows, backNodes, valueNets, ratioOfRows}
+use Rattle.wrong.specs.Substitutes.{withSaid, byAnswer, valueBy, forwardBy, backRows, backNodes, paying, valueNets, ratioOfRows}
 use Rattle.wrong.specs.Examples.{catalogueOf, constantRows, used, deck, root, ratioOn, whole, wholeRun, toppedRun, changing, periodsRun, live}
 
 -- ---- back: both rows by other steps
@@ -62,8 +62,8 @@ backSteps d a =
 abbrev backOn : (Terms → Terms) → Engine
 backOn f = backSteps (λ x. rolled (f x) (defaultOf (f x))) (λ x. rolled (f x) (premiumOf (f x)))
 
-abbrev sheetWith : Terms → ℕ → List ℕ → List ℕ → Terms
-sheetWith x recovery discounts accruals =
+abbrev sheetWith : Terms → ℕ → List ℕ → List ℕ → List ℕ → Terms
+sheetWith x recovery discounts accruals elapsed =
     record {
       names = x .names;
       steps = x .steps;
@@ -74,22 +74,23 @@ sheetWith x recovery discounts accruals =
       hazards = x .hazards;
       discounts = discounts;
       accruals = accruals;
+      elapsed = elapsed;
     }
 
 -- Losses as if nothing were recovered.
 abbrev pub recoveryIgnored : Engine
-recoveryIgnored = backOn (λ x. sheetWith x 0 (x .discounts) (x .accruals))
+recoveryIgnored = backOn (λ x. sheetWith x 0 (x .discounts) (x .accruals) (x .elapsed))
 
 -- v(i) and a(i) for v(i + 1) and a(i + 1).
 abbrev pub discountBefore : Engine
-discountBefore = backOn (λ x. sheetWith x (x .recovery) (B ∷ x .discounts) (x .accruals))
+discountBefore = backOn (λ x. sheetWith x (x .recovery) (B ∷ x .discounts) (x .accruals) (x .elapsed))
 
 abbrev pub accrualBefore : Engine
-accrualBefore = backOn (λ x. sheetWith x (x .recovery) (x .discounts) (0 ∷ x .accruals))
+accrualBefore = backOn (λ x. sheetWith x (x .recovery) (x .discounts) (0 ∷ x .accruals) (x .elapsed))
 
 -- The last accrual at every step, also where none falls due.
 abbrev pub premiumEveryStep : Engine
-premiumEveryStep = backOn (λ x. sheetWith x (x .recovery) (x .discounts) (replicate (x .steps) (accrualOf x (x .steps))))
+premiumEveryStep = backOn (λ x. sheetWith x (x .recovery) (x .discounts) (replicate (x .steps) (accrualOf x (x .steps))) (x .elapsed))
 
 -- Survival for a default and a default for survival.
 abbrev pub movesExchanged : Engine
@@ -155,8 +156,7 @@ defaultUnpaid = backLegs (λ x j. defaultLeg (λ k. 0)) premiumOf
 
 -- A leg with the rounded cash of another besides.
 abbrev besides : Leg → Leg → Leg
-besides g h =
-    record { exactly = g .exactly; rounded = λ s k m. g .rounded s k m + h .rounded s k m; halves = g .halves }
+besides g h = paying g (λ s k m. g .rounded s k m + h .rounded s k m)
 
 abbrev pub defaultInPremiums : Engine
 defaultInPremiums = backLegs defaultOf (λ x j. besides (premiumOf x j) (defaultOf x j))
@@ -169,7 +169,7 @@ abbrev backLosses : (Terms → ℕ → ℕ → ℕ) → Engine
 backLosses M =
     backLegs (λ x j. defaultLeg (M x j))
     (λ x j.
-    premiumLeg (accrualOf x) (λ k.
+    premiumLeg (accrualOf x) (elapsedOf x) (λ k.
     cond (ltb j (x .tranches))
     (widthOf x j - M x j k - trancheRecovery (getD (x .attachments) j 0) (getD (x .attachments) (suc j) 0) (poolRecoveryOf x k))
     (outstandingOf x j k)))
@@ -193,7 +193,7 @@ lossRoundedUp =
 
 -- O(k) by another rule.
 abbrev backOutstandings : (Terms → ℕ → ℕ → ℕ) → Engine
-backOutstandings O = backLegs defaultOf (λ x j. premiumLeg (accrualOf x) (O x j))
+backOutstandings O = backLegs defaultOf (λ x j. premiumLeg (accrualOf x) (elapsedOf x) (O x j))
 
 -- O(k) of the index alone by another rule.
 abbrev backIndex : (Terms → ℕ → ℕ) → Engine
@@ -241,7 +241,7 @@ recoveryRoundedUp =
 abbrev weighed : Terms → ℕ → ℕ → ℕ → ℕ → ℕ
 weighed x i k defaulted survived = half (hazardOf x (suc i) k * defaulted + (B - hazardOf x (suc i) k) * survived)
 
--- The premium of a date on the count after the step, added late:
+-- The premium of a step, added late:
 -- by a rule of the discount, what the chance left of the row, and what it left of the premium.
 abbrev late : (ℕ → ℕ → ℕ → ℕ) → Step
 late f x i row =
@@ -475,12 +475,12 @@ unitsRun = blankRun unitsCatalogue used (issue 5 ∷ opening 5 (otherRows (const
 abbrev pub spannedRun : Run
 spannedRun = blankRun spannedCatalogue used (issue 7 ∷ opening 7 (otherRows (constantRows 4 0)) ∷ back 7 sameRows 1 ∷ [])
 
--- Their legs do not add to those of the one within the distances alone, h = 1 and (doubled) 2 h + q = 3, so that demand 3 needs a factor above 1.
+-- Their legs do not add to those of the one within the distances alone, h = 1 and (doubled) 2 h + q + f = 3: demand 3 needs a factor above 1.
 pub record FactorNeeded : Type 0 where
   pub within : Limits (unitsCatalogue .sheet 5)
   pub walked : Walked ours unitsRun 5 1
   pub spanned-walked : Walked ours spannedRun 7 1
-  pub dates : dates units 1 0 ≡ 1
+  pub halves : premiumHalves units 1 0 ≡ 3
   pub defaults : ¬ (Near (1 * 1) (sumTo 8 (λ j. heldD ours unitsRun units j 0)) (heldD ours spannedRun (spanning units) 0 0))
   pub premiums : ¬ (Near (1 * 3) (2 * sumTo 8 (λ j. heldA ours unitsRun units j 0)) (2 * heldA ours spannedRun (spanning units) 0 0))
 
@@ -495,7 +495,7 @@ pub record IndexFactorNeeded : Type 0 where
   pub within : Limits (sliversCatalogue .sheet 5)
   pub points : WholePool slivers
   pub walked : Walked ours sliversRun 5 1
-  pub dates : dates slivers 1 0 ≡ 1
+  pub halves : premiumHalves slivers 1 0 ≡ 3
   pub premiums : ¬ (Near (1 * 3) (2 * sumTo 8 (λ j. heldA ours sliversRun slivers j 0)) (2 * heldA ours sliversRun slivers 8 0))
 
 -- The errors of a distribution may total more than a unit a step, so that i alone is no bound: it needs a factor.
