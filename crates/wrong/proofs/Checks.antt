@@ -30,7 +30,7 @@ use Rattle.walk.specs.Promise.{Demand3}
 use Rattle.walk.specs.OurEngine.{walkResult, ours}
 use Rattle.walk.proofs.Uniqueness.{only-one}
 use Rattle.wrong.specs.Substitutes.{ratioBy}
-use Rattle.wrong.specs.Checks.{SheetCall, Open, Back, Value, Ratio, Forward, Inputs, answered, tests, RuledOut, judging, skipping, exchanging, checks, has, breakable, brokenFrom, places, oneWay, resized, openedClosed, openedElsewhere, openedShort, NoneChecks, replaced, tested, accrualsIn, positionTo, ceilingsTo, nodesTo, Unmoved}
+use Rattle.wrong.specs.Checks.{SheetCall, Open, Back, Value, Ratio, Forward, Inputs, answered, tests, RuledOut, judging, skipping, exchanging, checks, has, breakable, brokenFrom, places, oneWay, unmeasured, resized, openedClosed, openedElsewhere, openedShort, NoneChecks, replaced, tested, accrualsIn, positionTo, ceilingsTo, premiumsTo, accrualsAfter, namesLeft, stepsTwice, nodesTo, Unmoved}
 use Rattle.wrong.specs.Examples.{deck, answersOf}
 use Rattle.wrong.proofs.Computing.{computed}
 use Rattle.wrong.proofs.Refuted.{found, opened}
@@ -125,6 +125,28 @@ one-way : (o : SheetCall) (i : ℕ) → has i (places o) ≡ true → (longer : 
 unfolding half
 one-way o i h longer = ruled-out (one-of (places o) (half o longer) (halves o longer) i h)
 
+-- ---- a length not tested
+
+unfoldable unseen : SheetCall → Bool → ℕ → Bool
+unseen o longer i = shows (unmeasured o i) (answered o (resized i longer)) 2
+
+all-unseen : (o : SheetCall) (longer : Bool) → all (places o) (unseen o longer) ≡ true
+unfolding computed unseen
+all-unseen Open true = refl
+all-unseen Open false = refl
+all-unseen Back true = refl
+all-unseen Back false = refl
+all-unseen Value true = refl
+all-unseen Value false = refl
+all-unseen Ratio true = refl
+all-unseen Ratio false = refl
+all-unseen Forward true = refl
+all-unseen Forward false = refl
+
+length-unseen : (o : SheetCall) (i : ℕ) → has i (places o) ≡ true → (longer : Bool) → RuledOut (unmeasured o i) (answered o (resized i longer)) 2
+unfolding unseen
+length-unseen o i h longer = ruled-out (one-of (places o) (unseen o longer) (all-unseen o longer) i h)
+
 -- ---- ours
 
 unchanged : (o : SheetCall) → judging o (λ a t. t) ≡ ours
@@ -166,6 +188,7 @@ none-checks =
       skipped = skipped;
       exchanged = exchanged;
       one-way = one-way;
+      length-unseen = length-unseen;
       names-zero = ruled-out refl;
       names-one-refused = ruled-out refl;
       names-most-refused = ruled-out refl;
@@ -206,6 +229,14 @@ none-checks =
       total-more = ruled-out refl;
       last-zero = ruled-out refl;
       last-one-refused = ruled-out refl;
+      elapsed-most-refused = ruled-out refl;
+      elapsed-more = ruled-out refl;
+      elapsed-by-own-step = ruled-out refl;
+      elapsed-by-date-before = ruled-out refl;
+      elapsed-by-date-until = ruled-out refl;
+      elapsed-by-date-after = ruled-out refl;
+      elapsed-by-last-date = ruled-out refl;
+      elapsed-by-a-year = ruled-out refl;
       coupon-most-refused = ruled-out refl;
       coupon-more = ruled-out refl;
       closed-taken = record { back = ruled-out refl; value = ruled-out refl; ratio = ruled-out refl };
@@ -217,7 +248,14 @@ none-checks =
       ceiling-without-loss = record { back = ruled-out refl; value = ruled-out refl; ratio = ruled-out refl };
       index-ceiling-without-loss = record { back = ruled-out refl; value = ruled-out refl; ratio = ruled-out refl };
       ceiling-of-outstanding = record { back = ruled-out refl; value = ruled-out refl; ratio = ruled-out refl };
+      premium-most-refused = record { back = ruled-out refl; value = ruled-out refl; ratio = ruled-out refl };
+      premium-more = record { back = ruled-out refl; value = ruled-out refl; ratio = ruled-out refl };
+      ceiling-of-accruals-alone = record { back = ruled-out refl; value = ruled-out refl; ratio = ruled-out refl };
       ceiling-of-all-accruals = record { back = ruled-out refl; value = ruled-out refl; ratio = ruled-out refl };
+      ceiling-without-names = record { back = ruled-out refl; value = ruled-out refl; ratio = ruled-out refl };
+      ceiling-of-all-names = record { back = ruled-out refl; value = ruled-out refl; ratio = ruled-out refl };
+      ceiling-of-steps-once = record { back = ruled-out refl; value = ruled-out refl; ratio = ruled-out refl };
+      ceiling-of-all-steps = record { back = ruled-out refl; value = ruled-out refl; ratio = ruled-out refl };
       back-more = ruled-out refl;
       forward-most-refused = ruled-out refl;
       forward-more = ruled-out refl;
@@ -265,6 +303,14 @@ ceilings-unmoved Back = refl
 ceilings-unmoved Value = refl
 ceilings-unmoved Ratio = refl
 ceilings-unmoved Forward = refl
+
+premiums-unmoved : (o : SheetCall) → premiumsTo accrualsAfter namesLeft stepsTwice o ≡ ours
+unfolding computed
+premiums-unmoved Open = refl
+premiums-unmoved Back = refl
+premiums-unmoved Value = refl
+premiums-unmoved Ratio = refl
+premiums-unmoved Forward = refl
 
 -- Below 1 is 0.
 below-one : (n : ℕ) → ltb n 1 ≡ eqb n 0
@@ -321,9 +367,11 @@ unmoved =
       hazards = refl;
       discounts = refl;
       accruals = accruals-unmoved;
+      elapsed = refl;
       coupons = refl;
       position = position-unmoved;
       ceilings = ceilings-unmoved;
+      premiums = premiums-unmoved;
       back-steps = refl;
       forward-steps = refl;
       value-nodes = refl;

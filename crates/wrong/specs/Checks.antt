@@ -5,7 +5,7 @@ use mathlib.Core.Path.{_≡_}
 use mathlib.Core.Bool.{Bool, true, false, cond, not, _&&_, _||_}
 use mathlib.Core.List.{List, [], _∷_, _++_, map}
 use mathlib.Core.Logic.{_≢_}
-use lib.ListN.{length, getD, set, take, replicate}
+use lib.ListN.{length, getD, set, take, drop, replicate}
 use lib.Dec.{leb, ltb, eqb}
 use lib.IntN.{natAbs}
 use Rattle.cash.specs.Hedges.{ratioOf}
@@ -13,7 +13,8 @@ use Rattle.register.specs.declared.answers.Status.{Status}
 use Rattle.register.specs.Register.{statusIn}
 use Rattle.register.specs.Events.{blankRegister}
 use Rattle.sheet.specs.Terms.{Terms, sumOf}
-use Rattle.tree.specs.Sheet.{widthOf, outstandingOf, defaultMost, premiumMost}
+use Rattle.sheet.specs.Dates.{nextAccrual}
+use Rattle.tree.specs.Sheet.{accrualOf, widthOf, outstandingOf, defaultMost, premiumMost}
 use Rattle.rows.specs.Tables.{tab, any}
 use Rattle.rows.specs.Rows.{anyOver, soiled, distributionRow, Rows, rowsOf}
 use Rattle.sheet.specs.Brought.{Brought, brought}
@@ -199,11 +200,19 @@ abbrev pub anyLength : (ℕ → ℕ → ℕ → Bool) → ℕ → List (ℕ × �
 anyLength f i [] = false
 anyLength f i (t ∷ l) = f i (t .0) (t .1) || anyLength f (suc i) l
 
--- At one place a longer list is taken (true), or a shorter one (false).
-abbrev pub oneWay : SheetCall → ℕ → Bool → Engine
-oneWay o place longer =
+-- At one place by another test of the length and what it is to be.
+abbrev pub measuring : SheetCall → ℕ → (ℕ → ℕ → Bool) → Engine
+measuring o place off =
     tested 2 (λ a.
-    anyLength (λ i is due. cond (eqb i place) (cond longer (ltb is due) (ltb due is)) (differs is due)) 0 (lengths o a)) o
+    outside 1 16 (length (a .sheet .sheet .starts))
+    || anyLength (λ i is due. cond (eqb i place) (off is due) (differs is due)) 0 (lengths o a)) o
+
+-- There a longer list is taken (true), or a shorter one (false); and both.
+abbrev pub oneWay : SheetCall → ℕ → Bool → Engine
+oneWay o place longer = measuring o place (λ is due. cond longer (ltb is due) (ltb due is))
+
+abbrev pub unmeasured : SheetCall → ℕ → Engine
+unmeasured o place = measuring o place (λ is due. false)
 
 -- A call that keeps all checks, but that the list at that place is one longer or shorter.
 abbrev pub resized : ℕ → Bool → Inputs
@@ -214,7 +223,7 @@ resized place longer =
     (list 0 (0 ∷ 5 ∷ [])) (1 ∷ []) (list 1 (0 ∷ [])) (list 2 (1 ∷ [])) (list 3 (1 ∷ [])) (list 4 (0 ∷ [])) (list 5 (0 ∷ 0 ∷ [])))
     (list 6 live) (walkAt 1) (rowsOf (list 7 (replicate 4 0)) (list 8 (replicate 4 0))) (list 7 (0 ∷ 0 ∷ [])) 0 0 0
 
--- ---- 1 and 3 to 8, at their limits, in open
+-- ---- 1, 3 to 8, 21 and 25, at their limits, in open
 
 -- n, m and r, each from its least to its most.
 abbrev pub poolLimits : ℕ → ℕ → ℕ → ℕ → ℕ → ℕ → Engine
@@ -270,6 +279,19 @@ accrualsIn most total last =
     any (a .sheet .sheet .steps) (λ i. ltb most (getD (a .sheet .sheet .accruals) i 0)) || ltb total (sumOf (a .sheet .sheet .accruals))
     || ltb (getD (a .sheet .sheet .accruals) (pred (a .sheet .sheet .steps)) 0) last) Open
 
+-- 21: the most of the fraction that stands at i in its list, for the step i + 1.
+abbrev pub elapsedTo : (Terms → ℕ → ℕ) → Engine
+elapsedTo most = tested 21 (λ a. any (a .sheet .sheet .steps) (λ i. ltb (most (a .sheet .sheet) i) (getD (a .sheet .sheet .elapsed) i 0))) Open
+
+-- The accrual of the next premium date at or after that step: T-01's limit.
+abbrev pub nextOf : Terms → ℕ → ℕ
+nextOf x i = nextAccrual (drop i (x .accruals))
+
+-- The accrual of the last premium date among steps.
+abbrev pub lastAccrual : List ℕ → ℕ
+lastAccrual [] = 0
+lastAccrual (a ∷ l) = cond (eqb (lastAccrual l) 0) a (lastAccrual l)
+
 abbrev pub couponsTo : ℕ → Engine
 couponsTo most = tested 8 (λ a. any (a .sheet .sheet .tranches + 1) (λ j. ltb most (getD (a .sheet .coupons) j 0))) Open
 
@@ -308,6 +330,9 @@ ofDiscount y = terms 0 0 5 0 y (1 ∷ []) (0 ∷ []) 0
 
 abbrev pub ofAccruals : List ℕ → Brought
 ofAccruals l = terms 0 0 5 0 1 l (replicate (length l) 0) 0
+
+abbrev pub ofElapsed : List ℕ → List ℕ → Brought
+ofElapsed accruals elapsed = terms 0 0 5 0 1 accruals elapsed 0
 
 abbrev pub ofCoupon : ℕ → Brought
 ofCoupon y = terms 0 0 5 0 1 (1 ∷ []) (0 ∷ []) y
@@ -353,6 +378,23 @@ indexUnlost x j k = cond (ltb j (x .tranches)) (defaultMost x j k) (widthOf x j)
 -- What a tranche has outstanding.
 abbrev pub trancheLeft : Terms → ℕ → ℕ → ℕ
 trancheLeft x j k = cond (ltb j (x .tranches)) (outstandingOf x j k) (defaultMost x j k)
+
+-- Premium ceilings that count otherwise the accruals after a step, the names left at a count, or the steps left, each of which gives two units.
+abbrev pub premiumsTo : (Terms → ℕ → ℕ) → (Terms → ℕ → ℕ) → (Terms → ℕ → ℕ) → SheetCall → Engine
+premiumsTo accruals names steps = ceilingsTo defaultMost (λ x i k. accruals x i + names x k + steps x i)
+
+abbrev pub accrualsAfter : Terms → ℕ → ℕ
+accrualsAfter x i = sumOf (drop i (x .accruals))
+
+abbrev pub namesLeft : Terms → ℕ → ℕ
+namesLeft x k = x .names - k
+
+abbrev pub stepsTwice : Terms → ℕ → ℕ
+stepsTwice x i = 2 * (x .steps - i)
+
+-- Premium legs of the small sheet, of which all entries but the tranche's are 0.
+abbrev pub premiumsLent : ℕ → ℕ → Rows
+premiumsLent a b = rowsOf (replicate 4 0) (a ∷ b ∷ 0 ∷ 0 ∷ [])
 
 abbrev pub stepsTo : (Inputs → ℕ) → SheetCall → Engine
 stepsTo most = tested 13 (λ a. ltb (most a) (a .steps))
@@ -454,11 +496,14 @@ pub record NoneChecks : Type 0 where
   -- An engine that judges by our tests is ours, and our tests are document 01's checks in order.
   pub unchanged : (o : SheetCall) → judging o (λ a t. t) ≡ ours
   pub in-order : (o : SheetCall) (a : Inputs) → map (λ t. refusalNumber (t .1)) (tests o a) ≡ checks o
-  -- Any check of any call left out; any two exchanged; any length tested one way only.
+  -- Any check of any call left out, 21 among them; any two exchanged, so that 21 comes before 7, or 8 before 21; any length tested one way only, or not
+  -- at all, that of the elapsed fractions among them.
   pub skipped : (o : SheetCall) (n : ℕ) → has n (checks o) ≡ true → RuledOut (skipping o n) (answered o (brokenFrom n n)) n
   pub exchanged : (o : SheetCall) (m n : ℕ) → breakable o m n ≡ true → RuledOut (exchanging o m n) (answered o (brokenFrom m n)) m
   pub one-way : (o : SheetCall) (i : ℕ) → has i (places o) ≡ true → (longer : Bool) →
       RuledOut (oneWay o i longer) (answered o (resized i longer)) 2
+  pub length-unseen : (o : SheetCall) (i : ℕ) → has i (places o) ≡ true → (longer : Bool) →
+      RuledOut (unmeasured o i) (answered o (resized i longer)) 2
   -- 1
   pub names-zero : ByOpen (poolLimits 0 125 1 3650 1 8) (pool 0 1 1) 1
   pub names-one-refused : ByOpen (poolLimits 2 125 1 3650 1 8) (pool 1 1 1) 0
@@ -483,7 +528,7 @@ pub record NoneChecks : Type 0 where
   pub starts-equal : ByOpen (startsIn (λ s. differs s 1) ltb (λ x. x .steps)) (ofStarts (1 ∷ 1 ∷ []) (0 ∷ 0 ∷ [])) 25
   pub start-most-refused : ByOpen (startsIn (λ s. differs s 1) leb (λ x. x .steps - 1)) (ofStarts (1 ∷ 16 ∷ []) (0 ∷ 0 ∷ [])) 0
   pub start-more : ByOpen (startsIn (λ s. differs s 1) leb (λ x. x .steps + 1)) (ofStarts (1 ∷ 17 ∷ []) (0 ∷ 0 ∷ [])) 25
-  -- 3 to 8
+  -- 3 to 8, and 21
   pub recovery-most-refused : ByOpen (recoveryTo 999_999_999) (ofRecovery 1_000_000_000) 0
   pub recovery-more : ByOpen (recoveryTo 1_000_000_001) (ofRecovery 1_000_000_001) 3
   pub attachments-equal : ByOpen (attachmentsTo ltb 1_000_000_000) (ofAttachments 5 5) 4
@@ -502,6 +547,14 @@ pub record NoneChecks : Type 0 where
   pub total-more : ByOpen (accrualsIn 1_000_000_000 10_000_000_001 1) (ofAccruals (replicate 10 1_000_000_000 ++ (1 ∷ []))) 7
   pub last-zero : ByOpen (accrualsIn 1_000_000_000 10_000_000_000 0) (ofAccruals (1 ∷ 0 ∷ [])) 7
   pub last-one-refused : ByOpen (accrualsIn 1_000_000_000 10_000_000_000 2) (ofAccruals (0 ∷ 1 ∷ [])) 0
+  pub elapsed-most-refused : ByOpen (elapsedTo (λ x i. nextOf x i - 1)) (ofElapsed (5 ∷ []) (5 ∷ [])) 0
+  pub elapsed-more : ByOpen (elapsedTo (λ x i. nextOf x i + 1)) (ofElapsed (5 ∷ []) (6 ∷ [])) 21
+  pub elapsed-by-own-step : ByOpen (elapsedTo (λ x i. getD (x .accruals) i 0)) (ofElapsed (0 ∷ 5 ∷ []) (5 ∷ 0 ∷ [])) 0
+  pub elapsed-by-date-before : ByOpen (elapsedTo (λ x i. lastAccrual (take i (x .accruals)))) (ofElapsed (9 ∷ 5 ∷ []) (0 ∷ 6 ∷ [])) 21
+  pub elapsed-by-date-until : ByOpen (elapsedTo (λ x i. lastAccrual (take (suc i) (x .accruals)))) (ofElapsed (9 ∷ 0 ∷ 5 ∷ []) (0 ∷ 6 ∷ 0 ∷ [])) 21
+  pub elapsed-by-date-after : ByOpen (elapsedTo (λ x i. nextOf x (suc i))) (ofElapsed (5 ∷ 9 ∷ []) (6 ∷ 0 ∷ [])) 21
+  pub elapsed-by-last-date : ByOpen (elapsedTo (λ x i. accrualOf x (x .steps))) (ofElapsed (5 ∷ 9 ∷ []) (6 ∷ 0 ∷ [])) 21
+  pub elapsed-by-a-year : ByOpen (elapsedTo (λ x i. 1_000_000_000)) (ofElapsed (5 ∷ []) (6 ∷ [])) 21
   pub coupon-most-refused : ByOpen (couponsTo 9_999_999) (ofCoupon 10_000_000) 0
   pub coupon-more : ByOpen (couponsTo 10_000_001) (ofCoupon 10_000_001) 8
   -- 11 and 12, in back, value and hedge ratio
@@ -510,15 +563,22 @@ pub record NoneChecks : Type 0 where
   pub position-most-refused : ByWalking (positionTo (λ x. x .steps - 1)) (walkAt 1) clean 0
   pub position-more : ByWalking (positionTo (λ x. x .steps + 1)) (walkAt 2) clean 11
   pub defaults-unseen : ByWalking defaultsUnseen (walkAt 1) (rowsOf (6 ∷ 0 ∷ 0 ∷ 0 ∷ []) (replicate 4 0)) 12
-  pub premiums-unseen : ByWalking premiumsUnseen (walkAt 1) (rowsOf (replicate 4 0) (2 ∷ 0 ∷ 0 ∷ 0 ∷ [])) 12
+  pub premiums-unseen : ByWalking premiumsUnseen (walkAt 1) (premiumsLent 2 0) 12
   pub ceiling-without-loss : ByWalking (ceilingsTo trancheUnlost premiumMost) (walkAt 1) (rowsOf (0 ∷ 1 ∷ 0 ∷ 0 ∷ []) (replicate 4 0)) 12
   pub index-ceiling-without-loss : ByWalking (ceilingsTo indexUnlost premiumMost) (walkAt 1) (rowsOf (0 ∷ 0 ∷ 0 ∷ 1 ∷ []) (replicate 4 0)) 12
   -- What a tranche has outstanding in place of what it has left to lose, where all but a unit is recovered: nothing, and all but a unit.
   pub ceiling-of-outstanding : ByWalkCalls (ceilingsTo trancheLeft premiumMost)
       (inputs (terms 999_999_999 0 1_000_000_000 0 1 (1 ∷ []) (0 ∷ []) 0) live (walkAt 1)
       (rowsOf (0 ∷ 1 ∷ 0 ∷ 0 ∷ []) (replicate 4 0)) (0 ∷ 0 ∷ []) 0 0 0) 0
-  pub ceiling-of-all-accruals : ByWalking (ceilingsTo defaultMost (λ x i k. sumOf (x .accruals) + (x .names - k) + 2 * (x .steps - i))) (walkAt 1)
-      (rowsOf (replicate 4 0) (2 ∷ 0 ∷ 0 ∷ 0 ∷ [])) 12
+  -- Of the premium legs: 1 at the count 0 and 0 at the count 1 in the last step, and 4 at the count 0 before it.
+  pub premium-most-refused : ByWalking (ceilingsTo defaultMost (λ x i k. premiumMost x i k - 1)) (walkAt 0) (premiumsLent 4 0) 0
+  pub premium-more : ByWalking (ceilingsTo defaultMost (λ x i k. premiumMost x i k + 1)) (walkAt 0) (premiumsLent 5 0) 12
+  pub ceiling-of-accruals-alone : ByWalking (premiumsTo accrualsAfter (λ x k. 0) (λ x i. 0)) (walkAt 1) (premiumsLent 1 0) 0
+  pub ceiling-of-all-accruals : ByWalking (premiumsTo (λ x i. sumOf (x .accruals)) namesLeft stepsTwice) (walkAt 1) (premiumsLent 2 0) 12
+  pub ceiling-without-names : ByWalking (premiumsTo accrualsAfter (λ x k. 0) stepsTwice) (walkAt 1) (premiumsLent 1 0) 0
+  pub ceiling-of-all-names : ByWalking (premiumsTo accrualsAfter (λ x k. x .names) stepsTwice) (walkAt 1) (premiumsLent 0 1) 12
+  pub ceiling-of-steps-once : ByWalking (premiumsTo accrualsAfter namesLeft (λ x i. x .steps - i)) (walkAt 0) (premiumsLent 4 0) 0
+  pub ceiling-of-all-steps : ByWalking (premiumsTo accrualsAfter namesLeft (λ x i. 2 * x .steps)) (walkAt 1) (premiumsLent 2 0) 12
   -- 13, 14 and 16
   pub back-more : By Back (stepsTo (λ a. a .walk .position + 1)) 2 0 0 13
   pub forward-most-refused : By Forward (stepsTo (λ a. a .sheet .sheet .steps - 1)) 1 0 0 0
@@ -565,9 +625,11 @@ pub record Unmoved : Type 0 where
   pub hazards : hazardsTo 1_000_000_000 ≡ ours
   pub discounts : discountsIn 1 1_000_000_000 ≡ ours
   pub accruals : accrualsIn 1_000_000_000 10_000_000_000 1 ≡ ours
+  pub elapsed : elapsedTo nextOf ≡ ours
   pub coupons : couponsTo 10_000_000 ≡ ours
   pub position : (o : SheetCall) → positionTo (λ x. x .steps) o ≡ ours
   pub ceilings : (o : SheetCall) → ceilingsTo defaultMost premiumMost o ≡ ours
+  pub premiums : (o : SheetCall) → premiumsTo accrualsAfter namesLeft stepsTwice o ≡ ours
   pub back-steps : stepsTo (λ a. a .walk .position) Back ≡ ours
   pub forward-steps : stepsTo (λ a. a .sheet .sheet .steps) Forward ≡ ours
   pub value-nodes : nodesTo (λ x. x .tranches) (λ x. x .names) Value ≡ ours
