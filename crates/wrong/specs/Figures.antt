@@ -11,17 +11,17 @@ use Rattle.cash.specs.declared.Node.{Node}
 use Rattle.cash.specs.Units.{B, half}
 use Rattle.cash.specs.Near.{Near}
 use Rattle.cash.specs.Sums.{sumTo}
-use Rattle.cash.specs.Losses.{trancheLoss, trancheRecovery, trancheOutstanding, indexOutstanding}
+use Rattle.cash.specs.Losses.{trancheLoss, trancheRecovery, trancheOutstanding, indexOutstanding, premiumPayment, elapsedPayment}
 use Rattle.cash.specs.Hedges.{netValue, changeOf, jumpOf, negative, unlike, withSign, millionths, ratioOf}
-use Rattle.tree.specs.Paths.{survive, default}
+use Rattle.tree.specs.Paths.{survive, default, Cash}
 use Rattle.tree.specs.Backward.{rollNode, Leg}
-use Rattle.tree.specs.Legs.{defaultLeg, premiumLeg}
+use Rattle.tree.specs.Legs.{premiumCash, elapsedCash, defaultLeg, dateLeg, elapsedLeg, premiumLeg}
 use Rattle.sheet.specs.Terms.{Terms}
 use Rattle.sheet.specs.Periods.{begun, periodOf, hazardsInto}
 use Rattle.tree.specs.Sheet.{hazardOf, discountOf, accrualOf, elapsedOf, poolLossOf, poolRecoveryOf, lossOf, widthOf, outstandingOf}
-use Rattle.tree.specs.Sheet.{treeOf, defaultOf, premiumOf, premiumHalves, WholePool, spanning}
+use Rattle.tree.specs.Sheet.{treeOf, defaultOf, premiumOf, exactA, dates, elapsedCount, premiumHalves, WholePool, spanning}
 use Rattle.tree.specs.Forward.{same, outflow, fromBelow, pushed, errors}
-use Rattle.tree.specs.Trials.{units, slivers, drifting}
+use Rattle.tree.specs.Trials.{units, slivers, drifting, fourHalves}
 use Rattle.rows.specs.Tables.{tab}
 use Rattle.rows.specs.Rows.{nodeIn, rowOf, rolled, Rows}
 use Rattle.sheet.specs.Brought.{Brought}
@@ -34,8 +34,9 @@ use Rattle.walk.specs.OurEngine.{ours}
 use Rattle.walk.specs.CallLists.{ownRows as sameRows, otherRows, issue, opening, back, Catalogue, Run, end}
 use Rattle.walk.specs.Accuracy.{Walked, heldD, heldA}
 use Rattle.walk.specs.Promise.{Rules, Demand3, blankRun}
-use Rattle.wrong.specs.Substitutes.{withSaid, byAnswer, valueBy, forwardBy, backRows, backNodes, paying, valueNets, ratioOfRows}
+use Rattle.wrong.specs.Substitutes.{withSaid, byAnswer, valueBy, forwardBy, backRows, backNodes, paying, backPremiums, valueNets, ratioOfRows}
 use Rattle.wrong.specs.Examples.{catalogueOf, constantRows, used, deck, root, ratioOn, whole, wholeRun, toppedRun, changing, periodsRun, live}
+use Rattle.wrong.specs.Examples.{unevenlyRun}
 
 -- ---- back: both rows by other steps
 
@@ -87,6 +88,10 @@ discountBefore = backOn (λ x. sheetWith x (x .recovery) (B ∷ x .discounts) (x
 
 abbrev pub accrualBefore : Engine
 accrualBefore = backOn (λ x. sheetWith x (x .recovery) (x .discounts) (0 ∷ x .accruals) (x .elapsed))
+
+-- e(i) for e(i + 1): the fraction of the step moved from.
+abbrev pub elapsedMovedFrom : Engine
+elapsedMovedFrom = backOn (λ x. sheetWith x (x .recovery) (x .discounts) (x .accruals) (0 ∷ x .elapsed))
 
 -- The last accrual at every step, also where none falls due.
 abbrev pub premiumEveryStep : Engine
@@ -260,6 +265,66 @@ premiumAfterRoll = backLate (λ discount figure premium. half (discount * figure
 abbrev pub premiumAfterChance : Engine
 premiumAfterChance = backLate (λ discount figure premium. half (discount * (figure + premium)))
 
+-- ---- back: the premium earned up to a default
+
+-- By other cash, beside the premium of the step.
+abbrev backElapsed : (Terms → ℕ → Cash) → Engine
+backElapsed cash = backPremiums (λ x j s k m. premiumCash (accrualOf x) (outstandingOf x j) s k m + cash x j s k m)
+
+-- By another rule of the fraction, O(k) and O(k + 1).
+abbrev upTo : (ℕ → ℕ → ℕ → ℕ) → Terms → ℕ → Cash
+upTo rule x j s k default = rule (elapsedOf x s) (outstandingOf x j k) (outstandingOf x j (suc k))
+upTo rule x j s k survive = 0
+
+abbrev pub elapsedUnpaid : Engine
+elapsedUnpaid = backElapsed (upTo (λ fraction before after. 0))
+
+-- On all that is outstanding before the default, or after it.
+abbrev pub elapsedOnBefore : Engine
+elapsedOnBefore = backElapsed (upTo (λ fraction before after. half (fraction * before)))
+
+abbrev pub elapsedOnAfter : Engine
+elapsedOnAfter = backElapsed (upTo (λ fraction before after. half (fraction * after)))
+
+abbrev pub elapsedRoundedDown : Engine
+elapsedRoundedDown = backElapsed (upTo (λ fraction before after. fraction * (before - after) / B))
+
+-- On what the default costs the tranche: what is recovered earns nothing.
+abbrev pub elapsedOnLoss : Engine
+elapsedOnLoss = backElapsed (λ x j. elapsedCash (elapsedOf x) (λ k. widthOf x j - lossOf x j k))
+
+-- Paid on survival too.
+abbrev pub elapsedOnSurvival : Engine
+elapsedOnSurvival = backElapsed (λ x j s k m. elapsedPayment (elapsedOf x s) (outstandingOf x j k) (outstandingOf x j (suc k)))
+
+-- Paid only into a step that is a premium date, or only into one that is none.
+abbrev pub elapsedOnDates : Engine
+elapsedOnDates = backElapsed (λ x j s k m. cond (eqb (accrualOf x s) 0) 0 (elapsedCash (elapsedOf x) (outstandingOf x j) s k m))
+
+abbrev pub elapsedOffDates : Engine
+elapsedOffDates = backElapsed (λ x j s k m. cond (eqb (accrualOf x s) 0) (elapsedCash (elapsedOf x) (outstandingOf x j) s k m) 0)
+
+-- Of the tranches alone.
+abbrev pub elapsedNotOfIndex : Engine
+elapsedNotOfIndex = backElapsed (λ x j s k m. cond (ltb j (x .tranches)) (elapsedCash (elapsedOf x) (outstandingOf x j) s k m) 0)
+
+-- One rounding for both premiums of a step.
+abbrev pub elapsedRoundedTogether : Engine
+elapsedRoundedTogether = backPremiums (λ x j s k m. half (premiumOf x j .exactly s k m))
+
+-- A default pays it in place of the premium of the date.
+abbrev elapsedInstead : Terms → ℕ → Cash
+elapsedInstead x j s k default = elapsedPayment (elapsedOf x s) (outstandingOf x j k) (outstandingOf x j (suc k))
+elapsedInstead x j s k survive = premiumPayment (accrualOf x s) (outstandingOf x j k)
+
+abbrev pub elapsedForDate : Engine
+elapsedForDate = backPremiums elapsedInstead
+
+-- It is paid to the other side, with what the default pays.
+abbrev pub elapsedInDefaults : Engine
+elapsedInDefaults =
+    backLegs (λ x j. besides (defaultOf x j) (elapsedLeg (elapsedOf x) (outstandingOf x j))) (λ x j. dateLeg (accrualOf x) (outstandingOf x j))
+
 -- ---- value
 
 -- A tenth of W's factor.
@@ -394,6 +459,7 @@ pub record NoneFigures : Type 0 where
   pub recovery-ignored : Demand3 recoveryIgnored → ⊥
   pub discount-before : Demand3 discountBefore → ⊥
   pub accrual-before : Demand3 accrualBefore → ⊥
+  pub elapsed-moved-from : Demand3 elapsedMovedFrom → ⊥
   pub premium-every-step : Demand3 premiumEveryStep → ⊥
   pub moves-exchanged : Demand3 movesExchanged → ⊥
   pub hazard-of-next : Demand3 hazardOfNext → ⊥
@@ -419,6 +485,18 @@ pub record NoneFigures : Type 0 where
   pub recovery-rounded-up : Demand3 recoveryRoundedUp → ⊥
   pub premium-after-roll : Demand3 premiumAfterRoll → ⊥
   pub premium-after-chance : Demand3 premiumAfterChance → ⊥
+  pub elapsed-unpaid : Demand3 elapsedUnpaid → ⊥
+  pub elapsed-on-before : Demand3 elapsedOnBefore → ⊥
+  pub elapsed-on-after : Demand3 elapsedOnAfter → ⊥
+  pub elapsed-rounded-down : Demand3 elapsedRoundedDown → ⊥
+  pub elapsed-on-loss : Demand3 elapsedOnLoss → ⊥
+  pub elapsed-on-survival : Demand3 elapsedOnSurvival → ⊥
+  pub elapsed-on-dates : Demand3 elapsedOnDates → ⊥
+  pub elapsed-off-dates : Demand3 elapsedOffDates → ⊥
+  pub elapsed-not-of-index : Demand3 elapsedNotOfIndex → ⊥
+  pub elapsed-rounded-together : Demand3 elapsedRoundedTogether → ⊥
+  pub elapsed-for-date : Demand3 elapsedForDate → ⊥
+  pub elapsed-in-defaults : Demand3 elapsedInDefaults → ⊥
   pub net-factor-short : Demand3 netFactorShort → ⊥
   pub net-legs-exchanged : Demand3 netLegsExchanged → ⊥
   pub net-reversed : Demand3 netReversed → ⊥
@@ -440,19 +518,21 @@ pub record NoneFigures : Type 0 where
 
 -- ---- the families with nothing changed
 
--- Each is ours on the uneven pool, the deck or the pool that is recovered from, so that the fault of an engine above is the one it is named for.
+-- Each is ours on the uneven pool with or without elapsed fractions, the deck or the pool that is recovered from, so that the fault of an engine above is the one it is named for.
 pub record Unchanged : Type 0 where
-  pub sheet : end (backOn (λ x. x)) wholeRun ≡ end ours wholeRun
+  pub sheet : end (backOn (λ x. x)) unevenlyRun ≡ end ours unevenlyRun
   pub chances : end (backChances hazardOf) wholeRun ≡ end ours wholeRun
   pub periods : end (backChances (inPeriod (λ x. periodOf (x .starts)))) periodsRun ≡ end ours periodsRun
   pub forward-periods : forwardRow (λ x q. distributionBy (movesBy half (inPeriod (λ y. periodOf (y .starts))) x) first) .forward
       (changing .sheet 7) live (replicate 3 5) 3 ≡ ours .forward (changing .sheet 7) live (replicate 3 5) 3
-  pub legs : end (backLegs defaultOf premiumOf) wholeRun ≡ end ours wholeRun
-  pub losses : end (backLosses lossOf) wholeRun ≡ end ours wholeRun
+  pub legs : end (backLegs defaultOf premiumOf) unevenlyRun ≡ end ours unevenlyRun
+  pub losses : end (backLosses lossOf) unevenlyRun ≡ end ours unevenlyRun
   pub losses-at-the-top : end (backLosses lossOf) toppedRun ≡ end ours toppedRun
   pub outstandings : end (backOutstandings outstandingOf) toppedRun ≡ end ours toppedRun
   pub index : end (backIndex (λ x. outstandingOf x (x .tranches))) toppedRun ≡ end ours toppedRun
   pub tranches : end (backTranches trancheOutstanding) toppedRun ≡ end ours toppedRun
+  pub premiums : end (backPremiums (λ x j. premiumOf x j .rounded)) unevenlyRun ≡ end ours unevenlyRun
+  pub elapsed : end (backElapsed (upTo elapsedPayment)) unevenlyRun ≡ end ours unevenlyRun
   pub nets : valueNets (λ x j d a. netValue d (getD (x .coupons) j 0) a) .value (deck .sheet 7) (root .register) (root .walk) (root .rows) 0 0
       ≡ ours .value (deck .sheet 7) (root .register) (root .walk) (root .rows) 0 0
   pub jumps : ratioOfJumps jumpOf .ratio (deck .sheet 7) (root .register) (root .walk) (root .rows) 0 0 ≡ ratioOn (root .rows) 0 0
@@ -497,6 +577,21 @@ pub record IndexFactorNeeded : Type 0 where
   pub walked : Walked ours sliversRun 5 1
   pub halves : premiumHalves slivers 1 0 ≡ 3
   pub premiums : ¬ (Near (1 * 3) (2 * sumTo 8 (λ j. heldA ours sliversRun slivers j 0)) (2 * heldA ours sliversRun slivers 8 0))
+
+-- A step whose roundings all add, and one whose two premiums do.
+abbrev pub halvesCatalogue : Catalogue
+halvesCatalogue = catalogueOf fourHalves (replicate 2 0)
+
+abbrev pub halvesRun : Run
+halvesRun = blankRun halvesCatalogue used (issue 7 ∷ opening 7 sameRows ∷ back 7 sameRows 1 ∷ [])
+
+-- Its premium leg lies nearly 2 units from the exact value: the distance needs the half unit for an elapsed fraction, as 2 h + q is 3 (doubled).
+pub record ElapsedHalfNeeded : Type 0 where
+  pub within : Limits (halvesCatalogue .sheet 7)
+  pub walked : Walked ours halvesRun 7 1
+  pub dates : dates fourHalves 1 0 ≡ 1
+  pub elapsed : elapsedCount fourHalves 1 0 ≡ 1
+  pub premium : ¬ (Near (3 * B ^ 3) (2 * (heldA ours halvesRun fourHalves 1 0 * B ^ 3)) (2 * exactA fourHalves 1 1 0 0))
 
 -- The errors of a distribution may total more than a unit a step, so that i alone is no bound: it needs a factor.
 pub record NamesNeeded : Type 0 where
