@@ -30,7 +30,7 @@ use Rattle.walk.specs.Promise.{Demand3}
 use Rattle.walk.specs.OurEngine.{walkResult, ours}
 use Rattle.walk.proofs.Uniqueness.{only-one}
 use Rattle.wrong.specs.Substitutes.{ratioBy}
-use Rattle.wrong.specs.Checks.{SheetCall, Open, Back, Value, Ratio, Forward, Inputs, answered, tests, RuledOut, judging, skipping, exchanging, checks, has, breakable, brokenFrom, places, oneWay, unmeasured, resized, openedClosed, openedElsewhere, openedShort, NoneChecks, replaced, tested, accrualsIn, positionTo, ceilingsTo, premiumsTo, accrualsAfter, namesLeft, stepsTwice, nodesTo, Unmoved}
+use Rattle.wrong.specs.Checks.{SheetCall, Open, Back, Value, Ratio, Forward, Inputs, answered, tests, RuledOut, judging, skipping, exchanging, firstly, lastly, checks, has, breakable, brokenFrom, places, oneWay, unmeasured, resized, openedClosed, openedElsewhere, openedShort, NoneChecks, replaced, tested, accrualsIn, positionTo, ceilingsTo, premiumsTo, accrualsAfter, namesLeft, stepsTwice, nodesTo, Unmoved}
 use Rattle.wrong.specs.Examples.{deck, answersOf}
 use Rattle.wrong.proofs.Computing.{computed}
 use Rattle.wrong.proofs.Refuted.{found, opened}
@@ -85,9 +85,9 @@ skipped o n h = ruled-out (one-of (checks o) (skip o) (skips o) n h)
 -- ---- two checks exchanged
 
 unfoldable swap : SheetCall → ℕ → ℕ → Bool
-swap o m n = not (breakable o m n) || shows (exchanging o m n) (answered o (brokenFrom m n)) m
+swap o m n = shows (exchanging o m n) (answered o (brokenFrom m n)) m
 
-swaps : (o : SheetCall) → all (checks o) (λ m. all (checks o) (swap o m)) ≡ true
+swaps : (o : SheetCall) → all (checks o) (λ m. all (checks o) (λ n. not (breakable o m n) || swap o m n)) ≡ true
 unfolding computed swap
 swaps Open = refl
 swaps Back = refl
@@ -95,13 +95,50 @@ swaps Value = refl
 swaps Ratio = refl
 swaps Forward = refl
 
-exchanged : (o : SheetCall) (m n : ℕ) → breakable o m n ≡ true → RuledOut (exchanging o m n) (answered o (brokenFrom m n)) m
-unfolding swap
-exchanged o m n h =
+-- What holds of all pairs of checks, of two that a call can break.
+pairwise : (o : SheetCall) (f : ℕ → ℕ → Bool) → all (checks o) (λ m. all (checks o) (λ n. not (breakable o m n) || f m n)) ≡ true →
+    (m n : ℕ) → breakable o m n ≡ true → f m n ≡ true
+pairwise o f t m n h =
+    let g : ℕ → ℕ → Bool = λ m n. not (breakable o m n) || f m n in
     let p = both (has m (checks o)) _ h in
     let q = both (has n (checks o)) _ (p .1) in
-    let s = one-of (checks o) (swap o m) (one-of (checks o) (λ m. all (checks o) (swap o m)) (swaps o) m (p .0)) n (q .0) in
-    ruled-out (implied (breakable o m n) _ s h)
+    implied (breakable o m n) (f m n) (one-of (checks o) (g m) (one-of (checks o) (λ m. all (checks o) (g m)) t m (p .0)) n (q .0)) h
+
+exchanged : (o : SheetCall) (m n : ℕ) → breakable o m n ≡ true → RuledOut (exchanging o m n) (answered o (brokenFrom m n)) m
+unfolding swap
+exchanged o m n h = ruled-out (pairwise o (swap o) (swaps o) m n h)
+
+-- ---- a check moved
+
+unfoldable ahead : SheetCall → ℕ → ℕ → Bool
+ahead o m n = shows (firstly o n) (answered o (brokenFrom m n)) m
+
+all-ahead : (o : SheetCall) → all (checks o) (λ m. all (checks o) (λ n. not (breakable o m n) || ahead o m n)) ≡ true
+unfolding computed ahead
+all-ahead Open = refl
+all-ahead Back = refl
+all-ahead Value = refl
+all-ahead Ratio = refl
+all-ahead Forward = refl
+
+made-first : (o : SheetCall) (m n : ℕ) → breakable o m n ≡ true → RuledOut (firstly o n) (answered o (brokenFrom m n)) m
+unfolding ahead
+made-first o m n h = ruled-out (pairwise o (ahead o) (all-ahead o) m n h)
+
+unfoldable behind : SheetCall → ℕ → ℕ → Bool
+behind o m n = shows (lastly o m) (answered o (brokenFrom m n)) m
+
+all-behind : (o : SheetCall) → all (checks o) (λ m. all (checks o) (λ n. not (breakable o m n) || behind o m n)) ≡ true
+unfolding computed behind
+all-behind Open = refl
+all-behind Back = refl
+all-behind Value = refl
+all-behind Ratio = refl
+all-behind Forward = refl
+
+made-last : (o : SheetCall) (m n : ℕ) → breakable o m n ≡ true → RuledOut (lastly o m) (answered o (brokenFrom m n)) m
+unfolding behind
+made-last o m n h = ruled-out (pairwise o (behind o) (all-behind o) m n h)
 
 -- ---- a length tested one way
 
@@ -187,8 +224,11 @@ none-checks =
       in-order = in-order;
       skipped = skipped;
       exchanged = exchanged;
+      made-first = made-first;
+      made-last = made-last;
       one-way = one-way;
       length-unseen = length-unseen;
+      elapsed-none-taken = ruled-out refl;
       names-zero = ruled-out refl;
       names-one-refused = ruled-out refl;
       names-most-refused = ruled-out refl;

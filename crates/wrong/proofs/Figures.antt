@@ -20,7 +20,7 @@ use Rattle.walk.specs.CallLists.{ownRows, otherRows, issue, opening, back, Cata
 use Rattle.walk.specs.Liveness.{CallRule}
 use Rattle.walk.specs.Promise.{Rules, Demand3, blankRun}
 use Rattle.wrong.specs.Examples.{catalogueOf, constantRows, deck, used, toRoot, parted, whole, topped, changing, earning, unevenly, elsewhere, live, walkAt}
-use Rattle.wrong.specs.Figures.{rowBy, distributionBy, recoveryIgnored, discountBefore, accrualBefore, elapsedMovedFrom, premiumEveryStep, movesExchanged, hazardOfNext, pastLastCount, periodMovedFrom, firstPeriod, lastPeriod, nextPeriod, startsFromZero, laidByCount, legsExchanged, defaultUnpaid, defaultInPremiums, premiumInDefaults, lowerIgnored, lossUncapped, lossRoundedUp, indexRoundedDown, indexByNames, topNotShrunk, shrunkFromBelow, recoveredFromEach, recoveryRoundedUp, premiumAfterRoll, premiumAfterChance, elapsedUnpaid, elapsedOnBefore, elapsedOnAfter, elapsedRoundedDown, elapsedOnLoss, elapsedOnSurvival, elapsedOnDates, elapsedOffDates, elapsedNotOfIndex, elapsedRoundedTogether, elapsedForDate, elapsedInDefaults, netFactorShort, netLegsExchanged, netReversed, defaultForPremium, lossReversed, defaultReversed, premiumReversed, premiumLeftOut, trancheCoupon, tenThousandths, halfToEven, movesDown, halfMovesDown, movesPastLast, forwardMovedFrom, movesLost, nothingMoves, fromLentRow, NoneFigures, Unchanged, unitsCatalogue, FactorNeeded, sliversCatalogue, IndexFactorNeeded, halvesCatalogue, ElapsedHalfNeeded, NamesNeeded}
+use Rattle.wrong.specs.Figures.{rowBy, distributionBy, recoveryIgnored, discountBefore, accrualBefore, elapsedMovedFrom, premiumEveryStep, movesExchanged, hazardOfNext, pastLastCount, periodMovedFrom, firstPeriod, lastPeriod, nextPeriod, startsFromZero, laidByCount, legsExchanged, defaultUnpaid, defaultInPremiums, premiumInDefaults, lowerIgnored, lossUncapped, lossRoundedUp, indexRoundedDown, indexByNames, topNotShrunk, shrunkFromBelow, recoveredFromEach, recoveryRoundedUp, premiumAfterRoll, premiumAfterChance, elapsedUnpaid, elapsedOnBefore, elapsedOnAfter, elapsedRoundedDown, elapsedOnLoss, elapsedOnSurvival, elapsedOnDates, elapsedOffDates, elapsedNotOfIndex, elapsedRoundedTogether, elapsedForDate, elapsedInDefaults, netFactorShort, netLegsExchanged, netReversed, defaultForPremium, lossReversed, defaultReversed, premiumReversed, premiumLeftOut, trancheCoupon, tenThousandths, halfToEven, movesDown, halfMovesDown, movesPastLast, forwardMovedFrom, movesLost, nothingMoves, fromLentRow, NoneFigures, Unchanged, unitsCatalogue, FactorNeeded, sliversCatalogue, IndexFactorNeeded, halvesCatalogue, ElapsedHalfNeeded, twoUnits, CeilingNeeded, NamesNeeded}
 use Rattle.wrong.proofs.Computing.{computed}
 use Rattle.wrong.proofs.Refuted.{figure, found, back-step, sheet}
 
@@ -410,7 +410,19 @@ elapsed-half-needed =
       walked = record { opened = refl; walked = refl; own = refl };
       dates = refl;
       elapsed = refl;
+      halves = refl;
       premium = λ n. le→leb _ _ (n .below);
+      path-sum = λ n. le→leb _ _ (n .below);
+    }
+
+pub ceiling-needed : CeilingNeeded
+unfolding computed
+ceiling-needed =
+    record {
+      within = limits (twoUnits .sheet 7) false .0 refl .0;
+      walked = record { opened = refl; walked = refl; own = refl };
+      over = λ n. le→leb _ _ n;
+      taken = refl;
     }
 
 pub names-needed : NamesNeeded

@@ -34,7 +34,7 @@ use Rattle.walk.specs.CallLists.{ownRows, issue, back, value}
 use Rattle.walk.specs.Promise.{Rules, Demand3}
 use Rattle.walk.specs.OurEngine.{walkResult, forwardResult, ours}
 use Rattle.wrong.specs.Substitutes.{issueBy, withdrawBy, openBy, backBy, valueBy, ratioBy, forwardBy, refusal, byAnswer}
-use Rattle.wrong.specs.Examples.{deck, live, walkAt, refused, Plays}
+use Rattle.wrong.specs.Examples.{deck, unevenly, live, walkAt, refused, Plays}
 
 -- ---- calls
 
@@ -95,7 +95,8 @@ judging Back f =
     })))
 judging Value f =
     valueBy (λ x g w l j k.
-    walkResult (orOutcome (first (f (inputs x g w l [] 0 j k) (valueTests x g w l j k))) w l (record { answer = worth x l j k; walk = w; rows = l })))
+    walkResult (orOutcome (first (f (inputs x g w l [] 0 j k) (valueTests x g w l j k))) w l
+    (record { answer = worth x l j k; walk = w; rows = l })))
 judging Ratio f =
     ratioBy (λ x g w l j k.
     walkResult (orOutcome (first (f (inputs x g w l [] 0 j k) (ratioTests x g w l j k))) w l
@@ -113,7 +114,7 @@ replaced n b (t ∷ l) = (cond (eqb (refusalNumber (t .1)) n) b (t .0), t .1) �
 abbrev pub tested : ℕ → (Inputs → Bool) → SheetCall → Engine
 tested n f o = judging o (λ a. replaced n (f a))
 
--- ---- a check left out, two checks exchanged
+-- ---- a check left out, two checks exchanged, one moved
 
 abbrev pub skipping : SheetCall → ℕ → Engine
 skipping o n = tested n (λ a. false) o
@@ -130,6 +131,18 @@ swapped m n l =
 
 abbrev pub exchanging : SheetCall → ℕ → ℕ → Engine
 exchanging o m n = judging o (λ a. swapped m n)
+
+-- The tests of the refusal n alone.
+abbrev pub only : ℕ → List Test → List Test
+only n [] = []
+only n (t ∷ l) = cond (eqb (refusalNumber (t .1)) n) (t ∷ only n l) (only n l)
+
+-- A check made before all others, and after all others.
+abbrev pub firstly : SheetCall → ℕ → Engine
+firstly o n = judging o (λ a l. only n l ++ l)
+
+abbrev pub lastly : SheetCall → ℕ → Engine
+lastly o n = judging o (λ a l. replaced n false l ++ only n l)
 
 -- Document 01's checks of each call, in order, with those of T-06 and T-01.
 abbrev pub numbersToTen : List ℕ → List ℕ
@@ -431,6 +444,10 @@ nearScale =
     inputs (terms 1_000_000_000 0 200_000 0 1 (1_000_000_000 ∷ []) (0 ∷ []) 1) live (walkAt 0)
     (rowsOf (100_000 ∷ 0 ∷ 0 ∷ 0 ∷ []) (0 ∷ 0 ∷ 1_000_001 ∷ 0 ∷ [])) [] 0 0 0
 
+-- The uneven pool at its root, with a premium leg of the tranche at the count 0.
+abbrev pub unevenlyLent : ℕ → Inputs
+unevenlyLent a = inputs (unevenly .sheet 7) live (walkAt 0) (rowsOf (replicate 8 0) (a ∷ replicate 7 0)) [] 0 0 0
+
 -- By back, value and hedge ratio, each with the fault in itself; and on the small sheet.
 pub record ByWalkCalls (e : SheetCall → Engine) (a : Inputs) (n : ℕ) : Type 0 where
   pub back : RuledOut (e Back) (answered Back a) n
@@ -496,14 +513,18 @@ pub record NoneChecks : Type 0 where
   -- An engine that judges by our tests is ours, and our tests are document 01's checks in order.
   pub unchanged : (o : SheetCall) → judging o (λ a t. t) ≡ ours
   pub in-order : (o : SheetCall) (a : Inputs) → map (λ t. refusalNumber (t .1)) (tests o a) ≡ checks o
-  -- Any check of any call left out, 21 among them; any two exchanged, so that 21 comes before 7, or 8 before 21; any length tested one way only, or not
-  -- at all, that of the elapsed fractions among them.
+  -- Any check of any call left out, 21 among them; any two exchanged, so that 21 comes before 7, or 8 before 21; any moved to the front or the end,
+  -- where its number would put 21; any length tested one way only, or not at all, that of the elapsed fractions among them.
   pub skipped : (o : SheetCall) (n : ℕ) → has n (checks o) ≡ true → RuledOut (skipping o n) (answered o (brokenFrom n n)) n
   pub exchanged : (o : SheetCall) (m n : ℕ) → breakable o m n ≡ true → RuledOut (exchanging o m n) (answered o (brokenFrom m n)) m
+  pub made-first : (o : SheetCall) (m n : ℕ) → breakable o m n ≡ true → RuledOut (firstly o n) (answered o (brokenFrom m n)) m
+  pub made-last : (o : SheetCall) (m n : ℕ) → breakable o m n ≡ true → RuledOut (lastly o m) (answered o (brokenFrom m n)) m
   pub one-way : (o : SheetCall) (i : ℕ) → has i (places o) ≡ true → (longer : Bool) →
       RuledOut (oneWay o i longer) (answered o (resized i longer)) 2
   pub length-unseen : (o : SheetCall) (i : ℕ) → has i (places o) ≡ true → (longer : Bool) →
       RuledOut (unmeasured o i) (answered o (resized i longer)) 2
+  -- No fractions taken for zeros, as a deck without any has them.
+  pub elapsed-none-taken : ByOpen (measuring Open 4 (λ is due. not (eqb is 0) && differs is due)) (ofElapsed (5 ∷ []) []) 2
   -- 1
   pub names-zero : ByOpen (poolLimits 0 125 1 3650 1 8) (pool 0 1 1) 1
   pub names-one-refused : ByOpen (poolLimits 2 125 1 3650 1 8) (pool 1 1 1) 0
@@ -570,9 +591,10 @@ pub record NoneChecks : Type 0 where
   pub ceiling-of-outstanding : ByWalkCalls (ceilingsTo trancheLeft premiumMost)
       (inputs (terms 999_999_999 0 1_000_000_000 0 1 (1 ∷ []) (0 ∷ []) 0) live (walkAt 1)
       (rowsOf (0 ∷ 1 ∷ 0 ∷ 0 ∷ []) (replicate 4 0)) (0 ∷ 0 ∷ []) 0 0 0) 0
-  -- Of the premium legs: 1 at the count 0 and 0 at the count 1 in the last step, and 4 at the count 0 before it.
-  pub premium-most-refused : ByWalking (ceilingsTo defaultMost (λ x i k. premiumMost x i k - 1)) (walkAt 0) (premiumsLent 4 0) 0
-  pub premium-more : ByWalking (ceilingsTo defaultMost (λ x i k. premiumMost x i k + 1)) (walkAt 0) (premiumsLent 5 0) 12
+  -- Of the premium legs: on the uneven pool at its root, the accruals, 3 for the names and 4 for the steps; on the small sheet 4 at the count 0 at its
+  -- root, and in the last step 1 at the count 0 and 0 at the count 1.
+  pub premium-most-refused : ByWalkCalls (ceilingsTo defaultMost (λ x i k. premiumMost x i k - 1)) (unevenlyLent 503_000_007) 0
+  pub premium-more : ByWalkCalls (ceilingsTo defaultMost (λ x i k. premiumMost x i k + 1)) (unevenlyLent 503_000_008) 12
   pub ceiling-of-accruals-alone : ByWalking (premiumsTo accrualsAfter (λ x k. 0) (λ x i. 0)) (walkAt 1) (premiumsLent 1 0) 0
   pub ceiling-of-all-accruals : ByWalking (premiumsTo (λ x i. sumOf (x .accruals)) namesLeft stepsTwice) (walkAt 1) (premiumsLent 2 0) 12
   pub ceiling-without-names : ByWalking (premiumsTo accrualsAfter (λ x k. 0) stepsTwice) (walkAt 1) (premiumsLent 1 0) 0

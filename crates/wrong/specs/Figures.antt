@@ -4,7 +4,7 @@ use Prim.Native.Nat.{ℕ, zero, suc, pred, _+_, _-_, _*_, _/_, _%_, _^_, _≤_, 
 use mathlib.Core.Path.{_≡_}
 use mathlib.Core.Bool.{cond}
 use mathlib.Core.List.{List, [], _∷_}
-use lib.ListN.{length, getD, replicate}
+use lib.ListN.{length, getD, drop, replicate}
 use lib.Dec.{ltb, eqb}
 use lib.IntN.{ℤ, pos, natAbs, _+ℤ_, _-ℤ_, _*ℤ_}
 use Rattle.cash.specs.declared.Node.{Node}
@@ -14,14 +14,14 @@ use Rattle.cash.specs.Sums.{sumTo}
 use Rattle.cash.specs.Losses.{trancheLoss, trancheRecovery, trancheOutstanding, indexOutstanding, premiumPayment, elapsedPayment}
 use Rattle.cash.specs.Hedges.{netValue, changeOf, jumpOf, negative, unlike, withSign, millionths, ratioOf}
 use Rattle.tree.specs.Paths.{survive, default, Cash}
-use Rattle.tree.specs.Backward.{rollNode, Leg}
+use Rattle.tree.specs.Backward.{rollNode, Leg, legExact}
 use Rattle.tree.specs.Legs.{premiumCash, elapsedCash, defaultLeg, dateLeg, elapsedLeg, premiumLeg}
-use Rattle.sheet.specs.Terms.{Terms}
+use Rattle.sheet.specs.Terms.{Terms, sumOf}
 use Rattle.sheet.specs.Periods.{begun, periodOf, hazardsInto}
 use Rattle.tree.specs.Sheet.{hazardOf, discountOf, accrualOf, elapsedOf, poolLossOf, poolRecoveryOf, lossOf, widthOf, outstandingOf}
 use Rattle.tree.specs.Sheet.{treeOf, defaultOf, premiumOf, exactA, dates, elapsedCount, premiumHalves, WholePool, spanning}
 use Rattle.tree.specs.Forward.{same, outflow, fromBelow, pushed, errors}
-use Rattle.tree.specs.Trials.{units, slivers, drifting, fourHalves}
+use Rattle.tree.specs.Trials.{units, slivers, drifting, fourHalves, workedEarning}
 use Rattle.rows.specs.Tables.{tab}
 use Rattle.rows.specs.Rows.{nodeIn, rowOf, rolled, Rows}
 use Rattle.sheet.specs.Brought.{Brought}
@@ -31,12 +31,12 @@ use Rattle.figures.specs.Nodes.{nodeOf, jump}
 use Rattle.walk.specs.CallRules.{says}
 use Rattle.walk.specs.Engine.{Engine}
 use Rattle.walk.specs.OurEngine.{ours}
-use Rattle.walk.specs.CallLists.{ownRows as sameRows, otherRows, issue, opening, back, Catalogue, Run, end}
+use Rattle.walk.specs.CallLists.{ownRows as sameRows, otherRows, issue, opening, back, value, Catalogue, Run, end, answers}
 use Rattle.walk.specs.Accuracy.{Walked, heldD, heldA}
 use Rattle.walk.specs.Promise.{Rules, Demand3, blankRun}
 use Rattle.wrong.specs.Substitutes.{withSaid, byAnswer, valueBy, forwardBy, backRows, backNodes, paying, backPremiums, valueNets, ratioOfRows}
 use Rattle.wrong.specs.Examples.{catalogueOf, constantRows, used, deck, root, ratioOn, whole, wholeRun, toppedRun, changing, periodsRun, live}
-use Rattle.wrong.specs.Examples.{unevenlyRun}
+use Rattle.wrong.specs.Examples.{earningRun, unevenlyRun}
 
 -- ---- back: both rows by other steps
 
@@ -518,7 +518,8 @@ pub record NoneFigures : Type 0 where
 
 -- ---- the families with nothing changed
 
--- Each is ours on the uneven pool with or without elapsed fractions, the deck or the pool that is recovered from, so that the fault of an engine above is the one it is named for.
+-- Each is ours on the uneven pool, with elapsed fractions or without, the deck or the pool that is recovered from, so that the fault of an engine
+-- above is the one it is named for.
 pub record Unchanged : Type 0 where
   pub sheet : end (backOn (λ x. x)) unevenlyRun ≡ end ours unevenlyRun
   pub chances : end (backChances hazardOf) wholeRun ≡ end ours wholeRun
@@ -578,20 +579,51 @@ pub record IndexFactorNeeded : Type 0 where
   pub halves : premiumHalves slivers 1 0 ≡ 3
   pub premiums : ¬ (Near (1 * 3) (2 * sumTo 8 (λ j. heldA ours sliversRun slivers j 0)) (2 * heldA ours sliversRun slivers 8 0))
 
--- A step whose roundings all add, and one whose two premiums do.
+-- A step whose roundings all add.
 abbrev pub halvesCatalogue : Catalogue
 halvesCatalogue = catalogueOf fourHalves (replicate 2 0)
 
 abbrev pub halvesRun : Run
 halvesRun = blankRun halvesCatalogue used (issue 7 ∷ opening 7 sameRows ∷ back 7 sameRows 1 ∷ [])
 
--- Its premium leg lies nearly 2 units from the exact value: the distance needs the half unit for an elapsed fraction, as 2 h + q is 3 (doubled).
+-- Its premium leg lies nearly 2 units from the exact value, which 2 h + q + f = 4 (doubled) allows and 2 h + q = 3 does not.
+-- The exact value needs the premium up to a default: without it the deck's premium leg lies further from it than the distance.
 pub record ElapsedHalfNeeded : Type 0 where
   pub within : Limits (halvesCatalogue .sheet 7)
   pub walked : Walked ours halvesRun 7 1
   pub dates : dates fourHalves 1 0 ≡ 1
   pub elapsed : elapsedCount fourHalves 1 0 ≡ 1
+  pub halves : premiumHalves fourHalves 1 0 ≡ 4
   pub premium : ¬ (Near (3 * B ^ 3) (2 * (heldA ours halvesRun fourHalves 1 0 * B ^ 3)) (2 * exactA fourHalves 1 1 0 0))
+  pub path-sum : ¬ (Near (premiumHalves workedEarning 2 0 * B ^ 5) (2 * (heldA ours earningRun workedEarning 0 0 * B ^ 5))
+      (2 * legExact (treeOf workedEarning) (dateLeg (accrualOf workedEarning) (outstandingOf workedEarning 0)) 2 0 0))
+
+-- A billionth of a year on either half of the pool is rounded up to a unit: the premium of the date, and that of the default.
+abbrev pub twoUnits : Catalogue
+twoUnits =
+    catalogueOf
+    (record {
+      names = 2;
+      steps = 1;
+      tranches = 1;
+      recovery = 0;
+      attachments = 0 ∷ 1_000_000_000 ∷ [];
+      starts = 1 ∷ [];
+      hazards = 1_000_000_000 ∷ 0 ∷ [];
+      discounts = 1_000_000_000 ∷ [];
+      accruals = 1 ∷ [];
+      elapsed = 1 ∷ [];
+    }) (replicate 2 0)
+
+abbrev pub twoUnitsRun : Run
+twoUnitsRun = blankRun twoUnits used (issue 7 ∷ opening 7 sameRows ∷ back 7 sameRows 1 ∷ [])
+
+-- So a walk leads above the accruals to come, which were the ceiling before T-01, and its rows are still taken.
+pub record CeilingNeeded : Type 0 where
+  pub within : Limits (twoUnits .sheet 7)
+  pub walked : Walked ours twoUnitsRun 7 1
+  pub over : ¬ (heldA ours twoUnitsRun (twoUnits .sheet 7 .sheet) 1 0 ≤ sumOf (drop 0 (twoUnits .sheet 7 .sheet .accruals)))
+  pub taken : answers ours twoUnitsRun (value 7 sameRows 1 0) ≡ says (pos 500_000_000 ∷ pos 2 ∷ pos 5_000_000_000_000_000 ∷ [])
 
 -- The errors of a distribution may total more than a unit a step, so that i alone is no bound: it needs a factor.
 pub record NamesNeeded : Type 0 where
