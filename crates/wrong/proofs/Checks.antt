@@ -1,10 +1,10 @@
 -- No engine with a wrong check keeps to the rules: they admit ours alone, which answers the call that shows the fault otherwise.
-use Prim.Native.Nat.{ℕ, zero, suc, pred, _-_}
+use Prim.Native.Nat.{ℕ, zero, suc, pred, _+_, _-_, _*_}
 use mathlib.Core.Path.{_≡_, refl, sym, _∙_, ap, subst}
 use mathlib.Core.Bool.{Bool, true, false, not, _&&_, _||_, true≢false}
 use mathlib.Core.List.{List, [], _∷_, map}
 use native.Mathlib.Omega.{arith}
-use lib.ListN.{getD}
+use lib.ListN.{length, getD}
 use lib.Dec.{leb, ltb, eqb, leb·suc-suc, leb·suc-zero, eqb·suc-zero}
 use lib.IntN.{ℤ}
 use borrow.Author.Tests.{eqb-true, eqb-false, not-true}
@@ -18,10 +18,11 @@ use Rattle.refusals.specs.declared.Refusal.{Refusal}
 use Rattle.refusals.specs.declared.Refusal.the-variants.{Pool}
 use Rattle.refusals.specs.Refusals.{refusalNumber}
 use Rattle.lists.specs.Outside.{outside}
-use Rattle.refusals.specs.Tests.{poolBad, Test, first}
+use Rattle.refusals.specs.Tests.{differs, poolBad, listsBad, Test, first}
+use Rattle.admission.specs.LentTests.{rowsBad}
 use Rattle.walk.specs.declared.Walk.{Walk}
 use Rattle.figures.specs.declared.Answer.the-variants as Answer
-use Rattle.rows.specs.Rows.{Rows}
+use Rattle.rows.specs.Rows.{Rows, rowLength}
 use Rattle.walk.specs.CallRules.{WalkResult}
 use Rattle.figures.specs.Nodes.{jump}
 use Rattle.walk.specs.Calls.{ratioTests, orOutcome}
@@ -30,7 +31,7 @@ use Rattle.walk.specs.Promise.{Demand3}
 use Rattle.walk.specs.OurEngine.{walkResult, ours}
 use Rattle.walk.proofs.Uniqueness.{only-one}
 use Rattle.wrong.specs.Substitutes.{ratioBy}
-use Rattle.wrong.specs.Checks.{SheetCall, Open, Back, Value, Ratio, Forward, Inputs, answered, tests, RuledOut, judging, skipping, exchanging, firstly, lastly, checks, has, breakable, brokenFrom, places, oneWay, unmeasured, resized, openedClosed, openedElsewhere, openedShort, NoneChecks, replaced, tested, accrualsIn, positionTo, ceilingsTo, premiumsTo, accrualsAfter, namesLeft, stepsTwice, nodesTo, Unmoved}
+use Rattle.wrong.specs.Checks.{SheetCall, Open, Back, Value, Ratio, Forward, Inputs, answered, tests, RuledOut, judging, skipping, exchanging, firstly, lastly, checks, has, breakable, brokenFrom, places, measuring, oneWay, unmeasured, resized, openedClosed, openedElsewhere, openedShort, NoneChecks, replaced, tested, accrualsIn, positionTo, ceilingsTo, premiumsTo, accrualsAfter, namesLeft, stepsTwice, nodesTo, Unmoved}
 use Rattle.wrong.specs.Examples.{deck, answersOf}
 use Rattle.wrong.proofs.Computing.{computed}
 use Rattle.wrong.proofs.Refuted.{found, opened}
@@ -328,6 +329,73 @@ none-checks =
 
 -- ---- the families with document 01's own limits
 
+-- The lengths of a sheet's own lists, the number of its periods first, and then others.
+regroup : (s a h d c e u l : Bool) → (s || (a || (h || (d || (c || (e || (u || l))))))) ≡ (a || (s || h) || d || c || e || u || l)
+regroup true true h d c e u l = refl
+regroup true false h d c e u l = refl
+regroup false true h d c e u l = refl
+regroup false false true d c e u l = refl
+regroup false false false true c e u l = refl
+regroup false false false false true e u l = refl
+regroup false false false false false true u l = refl
+regroup false false false false false false true l = refl
+regroup false false false false false false false l = refl
+
+-- Three more, or two.
+three : (g p q : Bool) → (g || (p || (q || false))) ≡ (g || p || q)
+three true p q = refl
+three false true q = refl
+three false false true = refl
+three false false false = refl
+
+two : (g p : Bool) → (g || (p || false)) ≡ (g || p)
+two true p = refl
+two false true = refl
+two false false = refl
+
+-- 2 by its lengths one after the other, those lent last.
+module _ (x : Brought) where
+  abbrev starts : Bool
+  starts = outside 1 16 (length (x .sheet .starts))
+
+  abbrev attachments : Bool
+  attachments = differs (length (x .sheet .attachments)) (x .sheet .tranches + 1)
+
+  abbrev hazards : Bool
+  hazards = differs (length (x .sheet .hazards)) (length (x .sheet .starts) * x .sheet .names)
+
+  abbrev discounts : Bool
+  discounts = differs (length (x .sheet .discounts)) (x .sheet .steps)
+
+  abbrev accruals : Bool
+  accruals = differs (length (x .sheet .accruals)) (x .sheet .steps)
+
+  abbrev elapsed : Bool
+  elapsed = differs (length (x .sheet .elapsed)) (x .sheet .steps)
+
+  abbrev coupons : Bool
+  coupons = differs (length (x .coupons)) (x .sheet .tranches + 1)
+
+  by-lengths : (l m : Bool) → l ≡ m →
+      (starts || (attachments || (hazards || (discounts || (accruals || (elapsed || (coupons || l))))))) ≡ (listsBad x || m)
+  unfolding computed
+  by-lengths l m e = regroup starts attachments hazards discounts accruals elapsed coupons l ∙ ap (λ b. listsBad x || b) e
+
+  walk-lengths : (g : List ℕ) (l : Rows) →
+      (differs (length g) 256 || (differs (length (l .defaults)) (rowLength (x .sheet)) || (differs (length (l .premiums)) (rowLength (x .sheet)) || false)))
+      ≡ rowsBad x g l
+  unfolding computed
+  walk-lengths g l = three (differs (length g) 256) (differs (length (l .defaults)) (rowLength (x .sheet))) (differs (length (l .premiums)) (rowLength (x .sheet)))
+
+lengths-unmoved : (o : SheetCall) → measuring o 4 differs ≡ ours
+unfolding computed
+lengths-unmoved Open = λ t. tested 2 (λ a. by-lengths (a .sheet) _ _ (walk-lengths (a .sheet) (a .register) (a .rows)) t) Open
+lengths-unmoved Back = λ t. tested 2 (λ a. by-lengths (a .sheet) _ _ (walk-lengths (a .sheet) (a .register) (a .rows)) t) Back
+lengths-unmoved Value = λ t. tested 2 (λ a. by-lengths (a .sheet) _ _ (walk-lengths (a .sheet) (a .register) (a .rows)) t) Value
+lengths-unmoved Ratio = λ t. tested 2 (λ a. by-lengths (a .sheet) _ _ (walk-lengths (a .sheet) (a .register) (a .rows)) t) Ratio
+lengths-unmoved Forward =
+    λ t. tested 2 (λ a. by-lengths (a .sheet) _ _ (two (differs (length (a .register)) 256) (differs (length (a .row)) (a .sheet .sheet .names + 1))) t) Forward
+
 position-unmoved : (o : SheetCall) → positionTo (λ x. x .steps) o ≡ ours
 unfolding computed
 position-unmoved Open = refl
@@ -399,6 +467,7 @@ pub unmoved : Unmoved
 unfolding computed
 unmoved =
     record {
+      lengths = lengths-unmoved;
       pool = refl;
       recovery = refl;
       attachments = refl;

@@ -5,7 +5,7 @@ use Rattle.tree.specs.Sheet.{spanning}
 use Rattle.refusals.proofs.Limits.{limits}
 use Rattle.walk.specs.Risk.{hedging}
 use Rattle.walk.specs.Power.{registerAfterCut, eventLeaves, withdrew, stateAfterEvents, everWithdrew}
-use Rattle.wrong.specs.Examples.{deck as deckCatalogue, parted, topped, changing, earning, broughtForward, answersOf, Deck, TranchesAdd, IndexAdds, PeriodsWalked, ElapsedWalked, NegativeWalked, Refusals, Ratios, Cuts}
+use Rattle.wrong.specs.Examples.{deck as deckCatalogue, parted, topped, changing, earning, paidEarly, answersOf, Deck, TranchesAdd, IndexAdds, PeriodsWalked, ElapsedWalked, NegativeWalked, Refusals, Ratios, Cuts}
 use Rattle.wrong.proofs.Computing.{computed}
 
 pub deck : Deck
@@ -71,7 +71,7 @@ pub negative-walked : NegativeWalked
 unfolding computed hedging
 negative-walked =
     record {
-      within = limits (broughtForward .sheet 7) false .0 refl .0;
+      within = limits (paidEarly .sheet 7) false .0 refl .0;
       walked = record { opened = refl; walked = refl; own = refl };
       defaults = refl;
       premiums = refl;

@@ -16,7 +16,7 @@ use Rattle.sheet.specs.Terms.{Terms, sumOf}
 use Rattle.sheet.specs.Dates.{nextAccrual}
 use Rattle.tree.specs.Sheet.{accrualOf, widthOf, outstandingOf, defaultMost, premiumMost}
 use Rattle.rows.specs.Tables.{tab, any}
-use Rattle.rows.specs.Rows.{anyOver, soiled, distributionRow, Rows, rowsOf}
+use Rattle.rows.specs.Rows.{anyOver, soiled, distributionRow, Rows, rowsOf, rowLength}
 use Rattle.sheet.specs.Brought.{Brought, brought}
 use Rattle.refusals.specs.Refusals.{refusalNumber}
 use Rattle.lists.specs.Outside.{outside}
@@ -203,7 +203,7 @@ lengths o a =
     ∷ (length (x .accruals), x .steps) ∷ (length (x .elapsed), x .steps)
     ∷ (length (a .sheet .coupons), x .tranches + 1) ∷ (length (a .register), 256)
     ∷ cond (isForward o) ((length (a .row), x .names + 1) ∷ [])
-    ((length (a .rows .defaults), (x .tranches + 1) * (x .names + 1)) ∷ (length (a .rows .premiums), (x .tranches + 1) * (x .names + 1)) ∷ [])
+    ((length (a .rows .defaults), rowLength x) ∷ (length (a .rows .premiums), rowLength x) ∷ [])
 
 abbrev pub places : SheetCall → List ℕ
 places o = 0 ∷ 1 ∷ 2 ∷ 3 ∷ 4 ∷ 5 ∷ 6 ∷ 7 ∷ cond (isForward o) [] (8 ∷ [])
@@ -591,8 +591,8 @@ pub record NoneChecks : Type 0 where
   pub ceiling-of-outstanding : ByWalkCalls (ceilingsTo trancheLeft premiumMost)
       (inputs (terms 999_999_999 0 1_000_000_000 0 1 (1 ∷ []) (0 ∷ []) 0) live (walkAt 1)
       (rowsOf (0 ∷ 1 ∷ 0 ∷ 0 ∷ []) (replicate 4 0)) (0 ∷ 0 ∷ []) 0 0 0) 0
-  -- Of the premium legs: on the uneven pool at its root, the accruals, 3 for the names and 4 for the steps; on the small sheet 4 at the count 0 at its
-  -- root, and in the last step 1 at the count 0 and 0 at the count 1.
+  -- Of the premium legs: at the root of the uneven pool the accruals, 3 for the names and 4 for the steps; on the small sheet 4 at its root, at the
+  -- count 0, and in the last step 1 at the count 0 and 0 at the count 1.
   pub premium-most-refused : ByWalkCalls (ceilingsTo defaultMost (λ x i k. premiumMost x i k - 1)) (unevenlyLent 503_000_007) 0
   pub premium-more : ByWalkCalls (ceilingsTo defaultMost (λ x i k. premiumMost x i k + 1)) (unevenlyLent 503_000_008) 12
   pub ceiling-of-accruals-alone : ByWalking (premiumsTo accrualsAfter (λ x k. 0) (λ x i. 0)) (walkAt 1) (premiumsLent 1 0) 0
@@ -639,6 +639,7 @@ pub record NoneChecks : Type 0 where
 
 -- Each is ours, so that the fault of an engine above is the one it is named for.
 pub record Unmoved : Type 0 where
+  pub lengths : (o : SheetCall) → measuring o 4 differs ≡ ours
   pub pool : poolLimits 1 125 1 3650 1 8 ≡ ours
   pub recovery : recoveryTo 1_000_000_000 ≡ ours
   pub attachments : attachmentsTo leb 1_000_000_000 ≡ ours

@@ -217,8 +217,8 @@ unevenlyRun = blankRun unevenly used (issue 7 ∷ opening 7 (otherRows (constant
 -- ---- a negative jump on walked rows
 
 -- No name defaults from the count 0, and from the count 1 one does for sure. What the last step pays is discounted to nearly nothing.
-abbrev pub broughtForward : Catalogue
-broughtForward =
+abbrev pub paidEarly : Catalogue
+paidEarly =
     catalogueOf
     (record {
       names = 2;
@@ -233,20 +233,20 @@ broughtForward =
       elapsed = 1_000_000_000 ∷ 0 ∷ [];
     }) (0 ∷ 10_000_000 ∷ [])
 
-abbrev pub forwardRun : Run
-forwardRun = blankRun broughtForward used toRoot
+abbrev pub earlyRun : Run
+earlyRun = blankRun paidEarly used toRoot
 
--- From the count 1 a default into the first step pays a year's premium at once; from the count 0 it is all paid in the last, when it is worth nearly
--- nothing. So a default raises what the index pays by more than what it gets, and the index's jump is negative; the tranche pays no premium, and its
--- hedge ratio is negative too. Where no fraction is paid this cannot be (`NeverNegative` of walk's specs/Risk.antt).
+-- From the count 1 a default into the first step pays a year's premium at once; from the count 0 all premium falls due in the last step, worth nearly
+-- nothing. So a default raises the index's premium leg by more than it raises what is paid for defaults: the index's jump is negative, and with it the
+-- hedge ratio of a tranche without coupon. Where no fraction is paid neither can be (`NeverNegative` of walk's specs/Risk.antt).
 pub record NegativeWalked : Type 0 where
-  pub within : Limits (broughtForward .sheet 7)
-  pub walked : Walked ours forwardRun 7 2
-  pub defaults : end ours forwardRun .rows .defaults ≡ 0 ∷ 0 ∷ 0 ∷ 0 ∷ 50_000_000 ∷ 0 ∷ []
-  pub premiums : end ours forwardRun .rows .premiums ≡ 0 ∷ 0 ∷ 0 ∷ 1 ∷ 500_000_000 ∷ 0 ∷ []
-  pub tranche-jump : jump (broughtForward .sheet 7) (end ours forwardRun .rows) 0 0 ≡ pos 500_000_000_000_000
-  pub index-jump : jump (broughtForward .sheet 7) (end ours forwardRun .rows) 1 0 ≡ negsuc 3_999_999_989_999_999
-  pub ratio : hedging ours forwardRun 7 0 0 .said ≡ says (negsuc 124_999 ∷ [])
+  pub within : Limits (paidEarly .sheet 7)
+  pub walked : Walked ours earlyRun 7 2
+  pub defaults : end ours earlyRun .rows .defaults ≡ 0 ∷ 0 ∷ 0 ∷ 0 ∷ 50_000_000 ∷ 0 ∷ []
+  pub premiums : end ours earlyRun .rows .premiums ≡ 0 ∷ 0 ∷ 0 ∷ 1 ∷ 500_000_000 ∷ 0 ∷ []
+  pub tranche-jump : jump (paidEarly .sheet 7) (end ours earlyRun .rows) 0 0 ≡ pos 500_000_000_000_000
+  pub index-jump : jump (paidEarly .sheet 7) (end ours earlyRun .rows) 1 0 ≡ negsuc 3_999_999_989_999_999
+  pub ratio : hedging ours earlyRun 7 0 0 .said ≡ says (negsuc 124_999 ∷ [])
 
 -- ---- refusals
 
