@@ -236,9 +236,9 @@ paidEarly =
 abbrev pub earlyRun : Run
 earlyRun = blankRun paidEarly used toRoot
 
--- From the count 1 a default into the first step pays a year's premium at once; from the count 0 all premium falls due in the last step, worth nearly
--- nothing. So a default raises the index's premium leg by more than it raises what is paid for defaults: the index's jump is negative, and with it the
--- hedge ratio of a tranche without coupon. Where no fraction is paid neither can be (`NeverNegative` of walk's specs/Risk.antt).
+-- From the count 1 a default into the first step pays a year's premium at once; from the count 0 all premium falls due in the last step, worth
+-- nearly nothing. So a default raises the index's premium leg by more than it raises what defaults pay: the index's jump is negative, and with it
+-- the hedge ratio of a tranche without coupon. Where no fraction is paid neither can be (`NeverNegative` of walk's specs/Risk.antt).
 pub record NegativeWalked : Type 0 where
   pub within : Limits (paidEarly .sheet 7)
   pub walked : Walked ours earlyRun 7 2
