@@ -1,10 +1,10 @@
 -- No engine with a wrong check keeps to the rules: they admit ours alone, which answers the call that shows the fault otherwise.
-use Prim.Native.Nat.{ℕ, zero, suc, pred, _-_}
+use Prim.Native.Nat.{ℕ, zero, suc, pred, _+_, _-_, _*_}
 use mathlib.Core.Path.{_≡_, refl, sym, _∙_, ap, subst}
 use mathlib.Core.Bool.{Bool, true, false, not, _&&_, _||_, true≢false}
 use mathlib.Core.List.{List, [], _∷_, map}
 use native.Mathlib.Omega.{arith}
-use lib.ListN.{getD}
+use lib.ListN.{length, getD}
 use lib.Dec.{leb, ltb, eqb, leb·suc-suc, leb·suc-zero, eqb·suc-zero}
 use lib.IntN.{ℤ}
 use borrow.Author.Tests.{eqb-true, eqb-false, not-true}
@@ -18,10 +18,11 @@ use Rattle.refusals.specs.declared.Refusal.{Refusal}
 use Rattle.refusals.specs.declared.Refusal.the-variants.{Pool}
 use Rattle.refusals.specs.Refusals.{refusalNumber}
 use Rattle.lists.specs.Outside.{outside}
-use Rattle.refusals.specs.Tests.{poolBad, Test, first}
+use Rattle.refusals.specs.Tests.{differs, poolBad, listsBad, Test, first}
+use Rattle.admission.specs.LentTests.{rowsBad}
 use Rattle.walk.specs.declared.Walk.{Walk}
 use Rattle.figures.specs.declared.Answer.the-variants as Answer
-use Rattle.rows.specs.Rows.{Rows}
+use Rattle.rows.specs.Rows.{Rows, rowLength}
 use Rattle.walk.specs.CallRules.{WalkResult}
 use Rattle.figures.specs.Nodes.{jump}
 use Rattle.walk.specs.Calls.{ratioTests, orOutcome}
@@ -30,7 +31,7 @@ use Rattle.walk.specs.Promise.{Demand3}
 use Rattle.walk.specs.OurEngine.{walkResult, ours}
 use Rattle.walk.proofs.Uniqueness.{only-one}
 use Rattle.wrong.specs.Substitutes.{ratioBy}
-use Rattle.wrong.specs.Checks.{SheetCall, Open, Back, Value, Ratio, Forward, Inputs, answered, tests, RuledOut, judging, skipping, exchanging, checks, has, breakable, brokenFrom, places, oneWay, resized, openedClosed, openedElsewhere, openedShort, NoneChecks, replaced, tested, accrualsIn, positionTo, ceilingsTo, nodesTo, Unmoved}
+use Rattle.wrong.specs.Checks.{SheetCall, Open, Back, Value, Ratio, Forward, Inputs, answered, tests, RuledOut, judging, skipping, exchanging, firstly, lastly, checks, has, breakable, brokenFrom, places, measuring, oneWay, unmeasured, resized, openedClosed, openedElsewhere, openedShort, NoneChecks, replaced, tested, accrualsIn, positionTo, ceilingsTo, premiumsTo, accrualsAfter, namesLeft, stepsTwice, nodesTo, Unmoved}
 use Rattle.wrong.specs.Examples.{deck, answersOf}
 use Rattle.wrong.proofs.Computing.{computed}
 use Rattle.wrong.proofs.Refuted.{found, opened}
@@ -85,9 +86,9 @@ skipped o n h = ruled-out (one-of (checks o) (skip o) (skips o) n h)
 -- ---- two checks exchanged
 
 unfoldable swap : SheetCall → ℕ → ℕ → Bool
-swap o m n = not (breakable o m n) || shows (exchanging o m n) (answered o (brokenFrom m n)) m
+swap o m n = shows (exchanging o m n) (answered o (brokenFrom m n)) m
 
-swaps : (o : SheetCall) → all (checks o) (λ m. all (checks o) (swap o m)) ≡ true
+swaps : (o : SheetCall) → all (checks o) (λ m. all (checks o) (λ n. not (breakable o m n) || swap o m n)) ≡ true
 unfolding computed swap
 swaps Open = refl
 swaps Back = refl
@@ -95,13 +96,50 @@ swaps Value = refl
 swaps Ratio = refl
 swaps Forward = refl
 
-exchanged : (o : SheetCall) (m n : ℕ) → breakable o m n ≡ true → RuledOut (exchanging o m n) (answered o (brokenFrom m n)) m
-unfolding swap
-exchanged o m n h =
+-- What holds of all pairs of checks, of two that a call can break.
+pairwise : (o : SheetCall) (f : ℕ → ℕ → Bool) → all (checks o) (λ m. all (checks o) (λ n. not (breakable o m n) || f m n)) ≡ true →
+    (m n : ℕ) → breakable o m n ≡ true → f m n ≡ true
+pairwise o f t m n h =
+    let g : ℕ → ℕ → Bool = λ m n. not (breakable o m n) || f m n in
     let p = both (has m (checks o)) _ h in
     let q = both (has n (checks o)) _ (p .1) in
-    let s = one-of (checks o) (swap o m) (one-of (checks o) (λ m. all (checks o) (swap o m)) (swaps o) m (p .0)) n (q .0) in
-    ruled-out (implied (breakable o m n) _ s h)
+    implied (breakable o m n) (f m n) (one-of (checks o) (g m) (one-of (checks o) (λ m. all (checks o) (g m)) t m (p .0)) n (q .0)) h
+
+exchanged : (o : SheetCall) (m n : ℕ) → breakable o m n ≡ true → RuledOut (exchanging o m n) (answered o (brokenFrom m n)) m
+unfolding swap
+exchanged o m n h = ruled-out (pairwise o (swap o) (swaps o) m n h)
+
+-- ---- a check moved
+
+unfoldable ahead : SheetCall → ℕ → ℕ → Bool
+ahead o m n = shows (firstly o n) (answered o (brokenFrom m n)) m
+
+all-ahead : (o : SheetCall) → all (checks o) (λ m. all (checks o) (λ n. not (breakable o m n) || ahead o m n)) ≡ true
+unfolding computed ahead
+all-ahead Open = refl
+all-ahead Back = refl
+all-ahead Value = refl
+all-ahead Ratio = refl
+all-ahead Forward = refl
+
+made-first : (o : SheetCall) (m n : ℕ) → breakable o m n ≡ true → RuledOut (firstly o n) (answered o (brokenFrom m n)) m
+unfolding ahead
+made-first o m n h = ruled-out (pairwise o (ahead o) (all-ahead o) m n h)
+
+unfoldable behind : SheetCall → ℕ → ℕ → Bool
+behind o m n = shows (lastly o m) (answered o (brokenFrom m n)) m
+
+all-behind : (o : SheetCall) → all (checks o) (λ m. all (checks o) (λ n. not (breakable o m n) || behind o m n)) ≡ true
+unfolding computed behind
+all-behind Open = refl
+all-behind Back = refl
+all-behind Value = refl
+all-behind Ratio = refl
+all-behind Forward = refl
+
+made-last : (o : SheetCall) (m n : ℕ) → breakable o m n ≡ true → RuledOut (lastly o m) (answered o (brokenFrom m n)) m
+unfolding behind
+made-last o m n h = ruled-out (pairwise o (behind o) (all-behind o) m n h)
 
 -- ---- a length tested one way
 
@@ -124,6 +162,28 @@ halves Forward false = refl
 one-way : (o : SheetCall) (i : ℕ) → has i (places o) ≡ true → (longer : Bool) → RuledOut (oneWay o i longer) (answered o (resized i longer)) 2
 unfolding half
 one-way o i h longer = ruled-out (one-of (places o) (half o longer) (halves o longer) i h)
+
+-- ---- a length not tested
+
+unfoldable unseen : SheetCall → Bool → ℕ → Bool
+unseen o longer i = shows (unmeasured o i) (answered o (resized i longer)) 2
+
+all-unseen : (o : SheetCall) (longer : Bool) → all (places o) (unseen o longer) ≡ true
+unfolding computed unseen
+all-unseen Open true = refl
+all-unseen Open false = refl
+all-unseen Back true = refl
+all-unseen Back false = refl
+all-unseen Value true = refl
+all-unseen Value false = refl
+all-unseen Ratio true = refl
+all-unseen Ratio false = refl
+all-unseen Forward true = refl
+all-unseen Forward false = refl
+
+length-unseen : (o : SheetCall) (i : ℕ) → has i (places o) ≡ true → (longer : Bool) → RuledOut (unmeasured o i) (answered o (resized i longer)) 2
+unfolding unseen
+length-unseen o i h longer = ruled-out (one-of (places o) (unseen o longer) (all-unseen o longer) i h)
 
 -- ---- ours
 
@@ -165,7 +225,11 @@ none-checks =
       in-order = in-order;
       skipped = skipped;
       exchanged = exchanged;
+      made-first = made-first;
+      made-last = made-last;
       one-way = one-way;
+      length-unseen = length-unseen;
+      elapsed-none-taken = ruled-out refl;
       names-zero = ruled-out refl;
       names-one-refused = ruled-out refl;
       names-most-refused = ruled-out refl;
@@ -206,6 +270,14 @@ none-checks =
       total-more = ruled-out refl;
       last-zero = ruled-out refl;
       last-one-refused = ruled-out refl;
+      elapsed-most-refused = ruled-out refl;
+      elapsed-more = ruled-out refl;
+      elapsed-by-own-step = ruled-out refl;
+      elapsed-by-date-before = ruled-out refl;
+      elapsed-by-date-until = ruled-out refl;
+      elapsed-by-date-after = ruled-out refl;
+      elapsed-by-last-date = ruled-out refl;
+      elapsed-by-a-year = ruled-out refl;
       coupon-most-refused = ruled-out refl;
       coupon-more = ruled-out refl;
       closed-taken = record { back = ruled-out refl; value = ruled-out refl; ratio = ruled-out refl };
@@ -217,7 +289,14 @@ none-checks =
       ceiling-without-loss = record { back = ruled-out refl; value = ruled-out refl; ratio = ruled-out refl };
       index-ceiling-without-loss = record { back = ruled-out refl; value = ruled-out refl; ratio = ruled-out refl };
       ceiling-of-outstanding = record { back = ruled-out refl; value = ruled-out refl; ratio = ruled-out refl };
+      premium-most-refused = record { back = ruled-out refl; value = ruled-out refl; ratio = ruled-out refl };
+      premium-more = record { back = ruled-out refl; value = ruled-out refl; ratio = ruled-out refl };
+      ceiling-of-accruals-alone = record { back = ruled-out refl; value = ruled-out refl; ratio = ruled-out refl };
       ceiling-of-all-accruals = record { back = ruled-out refl; value = ruled-out refl; ratio = ruled-out refl };
+      ceiling-without-names = record { back = ruled-out refl; value = ruled-out refl; ratio = ruled-out refl };
+      ceiling-of-all-names = record { back = ruled-out refl; value = ruled-out refl; ratio = ruled-out refl };
+      ceiling-of-steps-once = record { back = ruled-out refl; value = ruled-out refl; ratio = ruled-out refl };
+      ceiling-of-all-steps = record { back = ruled-out refl; value = ruled-out refl; ratio = ruled-out refl };
       back-more = ruled-out refl;
       forward-most-refused = ruled-out refl;
       forward-more = ruled-out refl;
@@ -250,6 +329,73 @@ none-checks =
 
 -- ---- the families with document 01's own limits
 
+-- The lengths of a sheet's own lists, the number of its periods first, and then others.
+regroup : (s a h d c e u l : Bool) → (s || (a || (h || (d || (c || (e || (u || l))))))) ≡ (a || (s || h) || d || c || e || u || l)
+regroup true true h d c e u l = refl
+regroup true false h d c e u l = refl
+regroup false true h d c e u l = refl
+regroup false false true d c e u l = refl
+regroup false false false true c e u l = refl
+regroup false false false false true e u l = refl
+regroup false false false false false true u l = refl
+regroup false false false false false false true l = refl
+regroup false false false false false false false l = refl
+
+-- Three more, or two.
+three : (g p q : Bool) → (g || (p || (q || false))) ≡ (g || p || q)
+three true p q = refl
+three false true q = refl
+three false false true = refl
+three false false false = refl
+
+two : (g p : Bool) → (g || (p || false)) ≡ (g || p)
+two true p = refl
+two false true = refl
+two false false = refl
+
+-- 2 by its lengths one after the other, those lent last.
+module _ (x : Brought) where
+  abbrev starts : Bool
+  starts = outside 1 16 (length (x .sheet .starts))
+
+  abbrev attachments : Bool
+  attachments = differs (length (x .sheet .attachments)) (x .sheet .tranches + 1)
+
+  abbrev hazards : Bool
+  hazards = differs (length (x .sheet .hazards)) (length (x .sheet .starts) * x .sheet .names)
+
+  abbrev discounts : Bool
+  discounts = differs (length (x .sheet .discounts)) (x .sheet .steps)
+
+  abbrev accruals : Bool
+  accruals = differs (length (x .sheet .accruals)) (x .sheet .steps)
+
+  abbrev elapsed : Bool
+  elapsed = differs (length (x .sheet .elapsed)) (x .sheet .steps)
+
+  abbrev coupons : Bool
+  coupons = differs (length (x .coupons)) (x .sheet .tranches + 1)
+
+  by-lengths : (l m : Bool) → l ≡ m →
+      (starts || (attachments || (hazards || (discounts || (accruals || (elapsed || (coupons || l))))))) ≡ (listsBad x || m)
+  unfolding computed
+  by-lengths l m e = regroup starts attachments hazards discounts accruals elapsed coupons l ∙ ap (λ b. listsBad x || b) e
+
+  walk-lengths : (g : List ℕ) (l : Rows) →
+      (differs (length g) 256 || (differs (length (l .defaults)) (rowLength (x .sheet)) || (differs (length (l .premiums)) (rowLength (x .sheet)) || false)))
+      ≡ rowsBad x g l
+  unfolding computed
+  walk-lengths g l = three (differs (length g) 256) (differs (length (l .defaults)) (rowLength (x .sheet))) (differs (length (l .premiums)) (rowLength (x .sheet)))
+
+lengths-unmoved : (o : SheetCall) → measuring o 4 differs ≡ ours
+unfolding computed
+lengths-unmoved Open = λ t. tested 2 (λ a. by-lengths (a .sheet) _ _ (walk-lengths (a .sheet) (a .register) (a .rows)) t) Open
+lengths-unmoved Back = λ t. tested 2 (λ a. by-lengths (a .sheet) _ _ (walk-lengths (a .sheet) (a .register) (a .rows)) t) Back
+lengths-unmoved Value = λ t. tested 2 (λ a. by-lengths (a .sheet) _ _ (walk-lengths (a .sheet) (a .register) (a .rows)) t) Value
+lengths-unmoved Ratio = λ t. tested 2 (λ a. by-lengths (a .sheet) _ _ (walk-lengths (a .sheet) (a .register) (a .rows)) t) Ratio
+lengths-unmoved Forward =
+    λ t. tested 2 (λ a. by-lengths (a .sheet) _ _ (two (differs (length (a .register)) 256) (differs (length (a .row)) (a .sheet .sheet .names + 1))) t) Forward
+
 position-unmoved : (o : SheetCall) → positionTo (λ x. x .steps) o ≡ ours
 unfolding computed
 position-unmoved Open = refl
@@ -265,6 +411,14 @@ ceilings-unmoved Back = refl
 ceilings-unmoved Value = refl
 ceilings-unmoved Ratio = refl
 ceilings-unmoved Forward = refl
+
+premiums-unmoved : (o : SheetCall) → premiumsTo accrualsAfter namesLeft stepsTwice o ≡ ours
+unfolding computed
+premiums-unmoved Open = refl
+premiums-unmoved Back = refl
+premiums-unmoved Value = refl
+premiums-unmoved Ratio = refl
+premiums-unmoved Forward = refl
 
 -- Below 1 is 0.
 below-one : (n : ℕ) → ltb n 1 ≡ eqb n 0
@@ -313,6 +467,7 @@ pub unmoved : Unmoved
 unfolding computed
 unmoved =
     record {
+      lengths = lengths-unmoved;
       pool = refl;
       recovery = refl;
       attachments = refl;
@@ -321,9 +476,11 @@ unmoved =
       hazards = refl;
       discounts = refl;
       accruals = accruals-unmoved;
+      elapsed = refl;
       coupons = refl;
       position = position-unmoved;
       ceilings = ceilings-unmoved;
+      premiums = premiums-unmoved;
       back-steps = refl;
       forward-steps = refl;
       value-nodes = refl;

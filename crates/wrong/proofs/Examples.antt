@@ -3,8 +3,9 @@ use mathlib.Core.Path.{refl}
 use mathlib.Core.Bool.{false}
 use Rattle.tree.specs.Sheet.{spanning}
 use Rattle.refusals.proofs.Limits.{limits}
+use Rattle.walk.specs.Risk.{hedging}
 use Rattle.walk.specs.Power.{registerAfterCut, eventLeaves, withdrew, stateAfterEvents, everWithdrew}
-use Rattle.wrong.specs.Examples.{deck as deckCatalogue, parted, topped, changing, answersOf, Deck, TranchesAdd, IndexAdds, PeriodsWalked, Refusals, Ratios, Cuts}
+use Rattle.wrong.specs.Examples.{deck as deckCatalogue, parted, topped, changing, earning, paidEarly, answersOf, Deck, TranchesAdd, IndexAdds, PeriodsWalked, ElapsedWalked, NegativeWalked, Refusals, Ratios, Cuts}
 use Rattle.wrong.proofs.Computing.{computed}
 
 pub deck : Deck
@@ -55,6 +56,30 @@ periods-walked =
       distribution = refl;
     }
 
+pub elapsed-walked : ElapsedWalked
+unfolding computed answersOf
+elapsed-walked =
+    record {
+      within = limits (earning .sheet 7) false .0 refl .0;
+      listing = refl;
+      walked = record { opened = refl; walked = refl; own = refl };
+      defaults = refl;
+      premiums = refl;
+    }
+
+pub negative-walked : NegativeWalked
+unfolding computed hedging
+negative-walked =
+    record {
+      within = limits (paidEarly .sheet 7) false .0 refl .0;
+      walked = record { opened = refl; walked = refl; own = refl };
+      defaults = refl;
+      premiums = refl;
+      tranche-jump = refl;
+      index-jump = refl;
+      ratio = refl;
+    }
+
 pub refusals : Refusals
 unfolding computed answersOf
 refusals =
@@ -69,6 +94,7 @@ refusals =
       hazard = refl;
       discount = refl;
       accrual = refl;
+      elapsed = refl;
       coupon = refl;
       first = refl;
     }

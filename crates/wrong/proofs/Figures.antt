@@ -19,8 +19,8 @@ use Rattle.walk.specs.Engine.{Engine}
 use Rattle.walk.specs.CallLists.{ownRows, otherRows, issue, opening, back, Catalogue, Run, end, afterWalkCall, callResult, answers}
 use Rattle.walk.specs.Liveness.{CallRule}
 use Rattle.walk.specs.Promise.{Rules, Demand3, blankRun}
-use Rattle.wrong.specs.Examples.{catalogueOf, constantRows, deck, used, toRoot, parted, whole, topped, changing, elsewhere, live, walkAt}
-use Rattle.wrong.specs.Figures.{rowBy, distributionBy, recoveryIgnored, discountBefore, accrualBefore, premiumEveryStep, movesExchanged, hazardOfNext, pastLastCount, periodMovedFrom, firstPeriod, lastPeriod, nextPeriod, startsFromZero, laidByCount, legsExchanged, defaultUnpaid, defaultInPremiums, premiumInDefaults, lowerIgnored, lossUncapped, lossRoundedUp, indexRoundedDown, indexByNames, topNotShrunk, shrunkFromBelow, recoveredFromEach, recoveryRoundedUp, premiumAfterRoll, premiumAfterChance, netFactorShort, netLegsExchanged, netReversed, defaultForPremium, lossReversed, defaultReversed, premiumReversed, premiumLeftOut, trancheCoupon, tenThousandths, halfToEven, movesDown, halfMovesDown, movesPastLast, forwardMovedFrom, movesLost, nothingMoves, fromLentRow, NoneFigures, Unchanged, unitsCatalogue, FactorNeeded, sliversCatalogue, IndexFactorNeeded, NamesNeeded}
+use Rattle.wrong.specs.Examples.{catalogueOf, constantRows, deck, used, toRoot, parted, whole, topped, changing, earning, unevenly, elsewhere, live, walkAt}
+use Rattle.wrong.specs.Figures.{rowBy, distributionBy, recoveryIgnored, discountBefore, accrualBefore, elapsedMovedFrom, premiumEveryStep, movesExchanged, hazardOfNext, pastLastCount, periodMovedFrom, firstPeriod, lastPeriod, nextPeriod, startsFromZero, laidByCount, legsExchanged, defaultUnpaid, defaultInPremiums, premiumInDefaults, lowerIgnored, lossUncapped, lossRoundedUp, indexRoundedDown, indexByNames, topNotShrunk, shrunkFromBelow, recoveredFromEach, recoveryRoundedUp, premiumAfterRoll, premiumAfterChance, elapsedUnpaid, elapsedOnBefore, elapsedOnAfter, elapsedRoundedDown, elapsedOnLoss, elapsedOnSurvival, elapsedOnDates, elapsedOffDates, elapsedNotOfIndex, elapsedRoundedTogether, elapsedForDate, elapsedInDefaults, netFactorShort, netLegsExchanged, netReversed, defaultForPremium, lossReversed, defaultReversed, premiumReversed, premiumLeftOut, trancheCoupon, tenThousandths, halfToEven, movesDown, halfMovesDown, movesPastLast, forwardMovedFrom, movesLost, nothingMoves, fromLentRow, NoneFigures, Unchanged, unitsCatalogue, FactorNeeded, sliversCatalogue, IndexFactorNeeded, halvesCatalogue, ElapsedHalfNeeded, twoUnits, CeilingNeeded, NamesNeeded}
 use Rattle.wrong.proofs.Computing.{computed}
 use Rattle.wrong.proofs.Refuted.{figure, found, back-step, sheet}
 
@@ -58,6 +58,10 @@ not-discountBefore d = omega (arith, by-one d deck 6 refl .default 0 0 (lit≤ t
 not-accrualBefore : Demand3 accrualBefore → ⊥
 unfolding computed rowBy
 not-accrualBefore d = omega (arith, by-one d deck 6 refl .premium 0 0 (lit≤ tt) (lit≤ tt))
+
+not-elapsedMovedFrom : Demand3 elapsedMovedFrom → ⊥
+unfolding computed rowBy
+not-elapsedMovedFrom d = omega (arith, by-one d unevenly 8 refl .premium 1 1 (lit≤ tt) (lit≤ tt))
 
 -- The first step of the deck is no premium date.
 not-premiumEveryStep : Demand3 premiumEveryStep → ⊥
@@ -165,6 +169,57 @@ not-premiumAfterChance d =
     let l = issue 7 ∷ opening 7 (otherRows (constantRows 8 0)) ∷ back 7 ownRows 1 ∷ [] in
     omega (arith, back-step _ _ _ _ (d whole used l .serves .ruled (back 7 ownRows 1) .does refl .rows) .premium 1 0 (lit≤ tt) (lit≤ tt))
 
+not-elapsedUnpaid : Demand3 elapsedUnpaid → ⊥
+unfolding computed
+not-elapsedUnpaid d = omega (arith, by-one d unevenly 8 refl .premium 1 1 (lit≤ tt) (lit≤ tt))
+
+not-elapsedOnBefore : Demand3 elapsedOnBefore → ⊥
+unfolding computed
+not-elapsedOnBefore d = omega (arith, by-one d unevenly 8 refl .premium 1 1 (lit≤ tt) (lit≤ tt))
+
+not-elapsedOnAfter : Demand3 elapsedOnAfter → ⊥
+unfolding computed
+not-elapsedOnAfter d = omega (arith, by-one d unevenly 8 refl .premium 1 0 (lit≤ tt) (lit≤ tt))
+
+-- A unit.
+not-elapsedRoundedDown : Demand3 elapsedRoundedDown → ⊥
+unfolding computed
+not-elapsedRoundedDown d = omega (arith, by-one d unevenly 8 refl .premium 1 1 (lit≤ tt) (lit≤ tt))
+
+not-elapsedOnLoss : Demand3 elapsedOnLoss → ⊥
+unfolding computed
+not-elapsedOnLoss d = omega (arith, by-one d unevenly 8 refl .premium 1 1 (lit≤ tt) (lit≤ tt))
+
+not-elapsedOnSurvival : Demand3 elapsedOnSurvival → ⊥
+unfolding computed
+not-elapsedOnSurvival d = omega (arith, by-one d unevenly 8 refl .premium 1 1 (lit≤ tt) (lit≤ tt))
+
+-- The first step of the deck is no premium date.
+not-elapsedOnDates : Demand3 elapsedOnDates → ⊥
+unfolding computed
+not-elapsedOnDates d = omega (arith, by-two d earning refl .premium 1 0 (lit≤ tt) (lit≤ tt))
+
+not-elapsedOffDates : Demand3 elapsedOffDates → ⊥
+unfolding computed
+not-elapsedOffDates d = omega (arith, by-one d unevenly 8 refl .premium 1 1 (lit≤ tt) (lit≤ tt))
+
+not-elapsedNotOfIndex : Demand3 elapsedNotOfIndex → ⊥
+unfolding computed
+not-elapsedNotOfIndex d = omega (arith, by-one d unevenly 8 refl .premium 1 1 (lit≤ tt) (lit≤ tt))
+
+-- A unit.
+not-elapsedRoundedTogether : Demand3 elapsedRoundedTogether → ⊥
+unfolding computed
+not-elapsedRoundedTogether d = omega (arith, by-one d unevenly 8 refl .premium 1 1 (lit≤ tt) (lit≤ tt))
+
+not-elapsedForDate : Demand3 elapsedForDate → ⊥
+unfolding computed
+not-elapsedForDate d = omega (arith, by-one d unevenly 8 refl .premium 1 1 (lit≤ tt) (lit≤ tt))
+
+not-elapsedInDefaults : Demand3 elapsedInDefaults → ⊥
+unfolding computed rowBy
+not-elapsedInDefaults d = omega (arith, by-one d unevenly 8 refl .default 1 1 (lit≤ tt) (lit≤ tt))
+
 -- ---- value
 
 not-netFactorShort : Demand3 netFactorShort → ⊥
@@ -224,7 +279,7 @@ not-halfToEven r = omega (arith, ap (figure 0) (r .ratio sheet live (walkAt 0) (
 abbrev halves : Brought
 halves =
     brought (record { names = 1; steps = 2; tranches = 1; recovery = 0; number = 7 })
-    (0 ∷ 5 ∷ []) (1 ∷ []) (50_000 ∷ []) (1 ∷ 1 ∷ []) (1 ∷ 1 ∷ []) (0 ∷ 0 ∷ [])
+    (0 ∷ 5 ∷ []) (1 ∷ []) (50_000 ∷ []) (1 ∷ 1 ∷ []) (1 ∷ 1 ∷ []) (0 ∷ 0 ∷ []) (0 ∷ 0 ∷ [])
 
 not-movesDown : Rules movesDown → ⊥
 unfolding computed distributionBy
@@ -260,6 +315,7 @@ none-figures =
       recovery-ignored = not-recoveryIgnored;
       discount-before = not-discountBefore;
       accrual-before = not-accrualBefore;
+      elapsed-moved-from = not-elapsedMovedFrom;
       premium-every-step = not-premiumEveryStep;
       moves-exchanged = not-movesExchanged;
       hazard-of-next = not-hazardOfNext;
@@ -285,6 +341,18 @@ none-figures =
       recovery-rounded-up = not-recoveryRoundedUp;
       premium-after-roll = not-premiumAfterRoll;
       premium-after-chance = not-premiumAfterChance;
+      elapsed-unpaid = not-elapsedUnpaid;
+      elapsed-on-before = not-elapsedOnBefore;
+      elapsed-on-after = not-elapsedOnAfter;
+      elapsed-rounded-down = not-elapsedRoundedDown;
+      elapsed-on-loss = not-elapsedOnLoss;
+      elapsed-on-survival = not-elapsedOnSurvival;
+      elapsed-on-dates = not-elapsedOnDates;
+      elapsed-off-dates = not-elapsedOffDates;
+      elapsed-not-of-index = not-elapsedNotOfIndex;
+      elapsed-rounded-together = not-elapsedRoundedTogether;
+      elapsed-for-date = not-elapsedForDate;
+      elapsed-in-defaults = not-elapsedInDefaults;
       net-factor-short = not-netFactorShort;
       net-legs-exchanged = not-netLegsExchanged;
       net-reversed = not-netReversed;
@@ -307,7 +375,7 @@ none-figures =
 
 pub unchanged : Unchanged
 unfolding computed rowBy distributionBy
-unchanged = record { sheet = refl; chances = refl; periods = refl; forward-periods = refl; legs = refl; losses = refl; losses-at-the-top = refl; outstandings = refl; index = refl; tranches = refl; nets = refl; jumps = refl; sizes = refl; moves = refl }
+unchanged = record { sheet = refl; chances = refl; periods = refl; forward-periods = refl; legs = refl; losses = refl; losses-at-the-top = refl; outstandings = refl; index = refl; tranches = refl; premiums = refl; elapsed = refl; nets = refl; jumps = refl; sizes = refl; moves = refl }
 
 -- ---- bounds
 
@@ -318,7 +386,7 @@ factor-needed =
       within = limits (unitsCatalogue .sheet 5) false .0 refl .0;
       walked = record { opened = refl; walked = refl; own = refl };
       spanned-walked = record { opened = refl; walked = refl; own = refl };
-      dates = refl;
+      halves = refl;
       defaults = λ n. le→leb _ _ (n .below);
       premiums = λ n. le→leb _ _ (n .below);
     }
@@ -330,8 +398,31 @@ index-factor-needed =
       within = limits (sliversCatalogue .sheet 5) false .0 refl .0;
       points = record { first = refl; last = refl };
       walked = record { opened = refl; walked = refl; own = refl };
-      dates = refl;
+      halves = refl;
       premiums = λ n. le→leb _ _ (n .below);
+    }
+
+pub elapsed-half-needed : ElapsedHalfNeeded
+unfolding computed
+elapsed-half-needed =
+    record {
+      within = limits (halvesCatalogue .sheet 7) false .0 refl .0;
+      walked = record { opened = refl; walked = refl; own = refl };
+      dates = refl;
+      elapsed = refl;
+      halves = refl;
+      premium = λ n. le→leb _ _ (n .below);
+      path-sum = λ n. le→leb _ _ (n .below);
+    }
+
+pub ceiling-needed : CeilingNeeded
+unfolding computed
+ceiling-needed =
+    record {
+      within = limits (twoUnits .sheet 7) false .0 refl .0;
+      walked = record { opened = refl; walked = refl; own = refl };
+      over = λ n. le→leb _ _ n;
+      taken = refl;
     }
 
 pub names-needed : NamesNeeded

@@ -153,6 +153,7 @@ small recovery attachments =
       hazards = 0 ∷ [];
       discounts = 1 ∷ [];
       accruals = 1 ∷ [];
+      elapsed = 0 ∷ [];
     }) (0 ∷ 0 ∷ [])
 
 not-allRefused : Demand3 allRefused → ⊥
@@ -380,15 +381,18 @@ pub early-numbers : EarlyNumbers
 unfolding isEarly
 early-numbers =
     record {
+      value-21 = λ x g w l j k. refl;
       value-25 = λ x g w l j k. refl;
       value-9 = λ x g w l j k. refl;
       value-10 = λ x g w l j k. refl;
       value-11 = λ x g w l j k. refl;
       value-14 = λ x g w l j k. refl;
+      forward-21 = λ x g row i. refl;
       forward-25 = λ x g row i. refl;
       forward-13 = λ x g row i. refl;
       withdraw-10 = λ g y. refl;
       issue-17 = λ g y. refl;
+      issue-21 = λ g y. refl;
       issue-25 = λ g y. refl;
     }
 

@@ -5,7 +5,7 @@ use mathlib.Core.Path.{_≡_}
 use mathlib.Core.Bool.{Bool, true, false, cond, not, _&&_, _||_}
 use mathlib.Core.List.{List, [], _∷_, _++_, map}
 use mathlib.Core.Logic.{_≢_}
-use lib.ListN.{length, getD, set, take, replicate}
+use lib.ListN.{length, getD, set, take, drop, replicate}
 use lib.Dec.{leb, ltb, eqb}
 use lib.IntN.{natAbs}
 use Rattle.cash.specs.Hedges.{ratioOf}
@@ -13,9 +13,10 @@ use Rattle.register.specs.declared.answers.Status.{Status}
 use Rattle.register.specs.Register.{statusIn}
 use Rattle.register.specs.Events.{blankRegister}
 use Rattle.sheet.specs.Terms.{Terms, sumOf}
-use Rattle.tree.specs.Sheet.{widthOf, outstandingOf, defaultMost, premiumMost}
+use Rattle.sheet.specs.Dates.{nextAccrual}
+use Rattle.tree.specs.Sheet.{accrualOf, widthOf, outstandingOf, defaultMost, premiumMost}
 use Rattle.rows.specs.Tables.{tab, any}
-use Rattle.rows.specs.Rows.{anyOver, soiled, distributionRow, Rows, rowsOf}
+use Rattle.rows.specs.Rows.{anyOver, soiled, distributionRow, Rows, rowsOf, rowLength}
 use Rattle.sheet.specs.Brought.{Brought, brought}
 use Rattle.refusals.specs.Refusals.{refusalNumber}
 use Rattle.lists.specs.Outside.{outside}
@@ -33,7 +34,7 @@ use Rattle.walk.specs.CallLists.{ownRows, issue, back, value}
 use Rattle.walk.specs.Promise.{Rules, Demand3}
 use Rattle.walk.specs.OurEngine.{walkResult, forwardResult, ours}
 use Rattle.wrong.specs.Substitutes.{issueBy, withdrawBy, openBy, backBy, valueBy, ratioBy, forwardBy, refusal, byAnswer}
-use Rattle.wrong.specs.Examples.{deck, live, walkAt, refused, Plays}
+use Rattle.wrong.specs.Examples.{deck, unevenly, live, walkAt, refused, Plays}
 
 -- ---- calls
 
@@ -94,7 +95,8 @@ judging Back f =
     })))
 judging Value f =
     valueBy (λ x g w l j k.
-    walkResult (orOutcome (first (f (inputs x g w l [] 0 j k) (valueTests x g w l j k))) w l (record { answer = worth x l j k; walk = w; rows = l })))
+    walkResult (orOutcome (first (f (inputs x g w l [] 0 j k) (valueTests x g w l j k))) w l
+    (record { answer = worth x l j k; walk = w; rows = l })))
 judging Ratio f =
     ratioBy (λ x g w l j k.
     walkResult (orOutcome (first (f (inputs x g w l [] 0 j k) (ratioTests x g w l j k))) w l
@@ -112,7 +114,7 @@ replaced n b (t ∷ l) = (cond (eqb (refusalNumber (t .1)) n) b (t .0), t .1) �
 abbrev pub tested : ℕ → (Inputs → Bool) → SheetCall → Engine
 tested n f o = judging o (λ a. replaced n (f a))
 
--- ---- a check left out, two checks exchanged
+-- ---- a check left out, two checks exchanged, one moved
 
 abbrev pub skipping : SheetCall → ℕ → Engine
 skipping o n = tested n (λ a. false) o
@@ -130,9 +132,21 @@ swapped m n l =
 abbrev pub exchanging : SheetCall → ℕ → ℕ → Engine
 exchanging o m n = judging o (λ a. swapped m n)
 
--- Document 01's checks of each call, in order, with T-06's.
+-- The tests of the refusal n alone.
+abbrev pub only : ℕ → List Test → List Test
+only n [] = []
+only n (t ∷ l) = cond (eqb (refusalNumber (t .1)) n) (t ∷ only n l) (only n l)
+
+-- A check made before all others, and after all others.
+abbrev pub firstly : SheetCall → ℕ → Engine
+firstly o n = judging o (λ a l. only n l ++ l)
+
+abbrev pub lastly : SheetCall → ℕ → Engine
+lastly o n = judging o (λ a l. replaced n false l ++ only n l)
+
+-- Document 01's checks of each call, in order, with those of T-06 and T-01.
 abbrev pub numbersToTen : List ℕ → List ℕ
-numbersToTen more = 1 ∷ 2 ∷ 3 ∷ 4 ∷ 25 ∷ 5 ∷ 6 ∷ 7 ∷ 8 ∷ 9 ∷ 10 ∷ more
+numbersToTen more = 1 ∷ 2 ∷ 3 ∷ 4 ∷ 25 ∷ 5 ∷ 6 ∷ 7 ∷ 21 ∷ 8 ∷ 9 ∷ 10 ∷ more
 
 abbrev pub checks : SheetCall → List ℕ
 checks Open = numbersToTen []
@@ -145,9 +159,9 @@ abbrev pub has : ℕ → List ℕ → Bool
 has n [] = false
 has n (m ∷ l) = eqb m n || has n l
 
--- Where a check stands in that order: 25 between 4 and 5.
+-- Where a check stands in that order: 25 between 4 and 5, 21 between 7 and 8.
 abbrev pub rank : ℕ → ℕ
-rank n = cond (eqb n 25) 9 (2 * n)
+rank n = cond (eqb n 25) 9 (cond (eqb n 21) 15 (2 * n))
 
 -- A call checks m and, later, n, and can break both: no number is both withdrawn and unissued.
 abbrev pub breakable : SheetCall → ℕ → ℕ → Bool
@@ -165,7 +179,7 @@ brokenFrom m n =
     (brought
     (record { names = 1; steps = 1; tranches = from m 1 1 9; recovery = from m 3 1_000_000_000 1_000_000_001; number = 7 })
     (from m 4 0 5 ∷ 5 ∷ []) (from m 25 1 2 ∷ []) (from m 5 0 1_000_000_001 ∷ from m 2 [] (0 ∷ [])) (from m 6 1 0 ∷ []) (from m 7 10 0 ∷ [])
-    (0 ∷ from m 8 1 10_000_001 ∷ []))
+    (from m 21 0 11 ∷ []) (0 ∷ from m 8 1 10_000_001 ∷ []))
     (set blankRegister 7 (from m 10 0xA5 (cond (eqb m 10 || eqb n 10) 0xFF 0x00)))
     (from m 11 (record { «open» = true; number = 7; position = 0 }) fresh)
     (rowsOf (from m 15 (1 ∷ 0 ∷ 0 ∷ 0 ∷ []) (replicate 4 (from m 12 0 1_000_000_000_000))) (from m 15 (0 ∷ 0 ∷ 10 ∷ 0 ∷ []) (replicate 4 0)))
@@ -180,29 +194,38 @@ isForward Value = false
 isForward Ratio = false
 isForward Forward = true
 
--- Lengths, each with what it is to be: 0 attachments, 1 hazards, 2 discounts, 3 accruals, 4 coupons, 5 the register,
--- 6 and 7 the rows of the default and the premium legs; of forward, 6 is its row.
+-- Lengths, each with what it is to be: 0 attachments, 1 hazards, 2 discounts, 3 accruals, 4 elapsed, 5 coupons, 6 the register,
+-- 7 and 8 the rows of the default and the premium legs; of forward, 7 is its row.
 abbrev pub lengths : SheetCall → Inputs → List (ℕ × ℕ)
 lengths o a =
     let x : Terms = a .sheet .sheet in
     (length (x .attachments), x .tranches + 1) ∷ (length (x .hazards), length (x .starts) * x .names) ∷ (length (x .discounts), x .steps)
-    ∷ (length (x .accruals), x .steps) ∷ (length (a .sheet .coupons), x .tranches + 1) ∷ (length (a .register), 256)
+    ∷ (length (x .accruals), x .steps) ∷ (length (x .elapsed), x .steps)
+    ∷ (length (a .sheet .coupons), x .tranches + 1) ∷ (length (a .register), 256)
     ∷ cond (isForward o) ((length (a .row), x .names + 1) ∷ [])
-    ((length (a .rows .defaults), (x .tranches + 1) * (x .names + 1)) ∷ (length (a .rows .premiums), (x .tranches + 1) * (x .names + 1)) ∷ [])
+    ((length (a .rows .defaults), rowLength x) ∷ (length (a .rows .premiums), rowLength x) ∷ [])
 
 abbrev pub places : SheetCall → List ℕ
-places o = 0 ∷ 1 ∷ 2 ∷ 3 ∷ 4 ∷ 5 ∷ 6 ∷ cond (isForward o) [] (7 ∷ [])
+places o = 0 ∷ 1 ∷ 2 ∷ 3 ∷ 4 ∷ 5 ∷ 6 ∷ 7 ∷ cond (isForward o) [] (8 ∷ [])
 
 -- Whether one of them, counted from i, meets a test.
 abbrev pub anyLength : (ℕ → ℕ → ℕ → Bool) → ℕ → List (ℕ × ℕ) → Bool
 anyLength f i [] = false
 anyLength f i (t ∷ l) = f i (t .0) (t .1) || anyLength f (suc i) l
 
--- At one place a longer list is taken (true), or a shorter one (false).
-abbrev pub oneWay : SheetCall → ℕ → Bool → Engine
-oneWay o place longer =
+-- At one place by another test of the length and what it is to be.
+abbrev pub measuring : SheetCall → ℕ → (ℕ → ℕ → Bool) → Engine
+measuring o place off =
     tested 2 (λ a.
-    anyLength (λ i is due. cond (eqb i place) (cond longer (ltb is due) (ltb due is)) (differs is due)) 0 (lengths o a)) o
+    outside 1 16 (length (a .sheet .sheet .starts))
+    || anyLength (λ i is due. cond (eqb i place) (off is due) (differs is due)) 0 (lengths o a)) o
+
+-- There a longer list is taken (true), or a shorter one (false); and both.
+abbrev pub oneWay : SheetCall → ℕ → Bool → Engine
+oneWay o place longer = measuring o place (λ is due. cond longer (ltb is due) (ltb due is))
+
+abbrev pub unmeasured : SheetCall → ℕ → Engine
+unmeasured o place = measuring o place (λ is due. false)
 
 -- A call that keeps all checks, but that the list at that place is one longer or shorter.
 abbrev pub resized : ℕ → Bool → Inputs
@@ -210,10 +233,10 @@ resized place longer =
     let list : ℕ → List ℕ → List ℕ = λ i l. cond (eqb i place) (cond longer (l ++ (9 ∷ [])) (take (length l - 1) l)) l in
     inputs
     (brought (record { names = 1; steps = 1; tranches = 1; recovery = 0; number = 7 })
-    (list 0 (0 ∷ 5 ∷ [])) (1 ∷ []) (list 1 (0 ∷ [])) (list 2 (1 ∷ [])) (list 3 (1 ∷ [])) (list 4 (0 ∷ 0 ∷ [])))
-    (list 5 live) (walkAt 1) (rowsOf (list 6 (replicate 4 0)) (list 7 (replicate 4 0))) (list 6 (0 ∷ 0 ∷ [])) 0 0 0
+    (list 0 (0 ∷ 5 ∷ [])) (1 ∷ []) (list 1 (0 ∷ [])) (list 2 (1 ∷ [])) (list 3 (1 ∷ [])) (list 4 (0 ∷ [])) (list 5 (0 ∷ 0 ∷ [])))
+    (list 6 live) (walkAt 1) (rowsOf (list 7 (replicate 4 0)) (list 8 (replicate 4 0))) (list 7 (0 ∷ 0 ∷ [])) 0 0 0
 
--- ---- 1 and 3 to 8, at their limits, in open
+-- ---- 1, 3 to 8, 21 and 25, at their limits, in open
 
 -- n, m and r, each from its least to its most.
 abbrev pub poolLimits : ℕ → ℕ → ℕ → ℕ → ℕ → ℕ → Engine
@@ -248,7 +271,8 @@ periodsIn least most due =
     let x : Terms = a .sheet .sheet in
     differs (length (x .attachments)) (x .tranches + 1) || (outside least most (length (x .starts)) || differs (length (x .hazards)) (due x))
     || differs (length (x .discounts)) (x .steps) || differs (length (x .accruals)) (x .steps)
-    || differs (length (a .sheet .coupons)) (x .tranches + 1) || rowsBad (a .sheet) (a .register) (a .rows)) Open
+    || differs (length (x .elapsed)) (x .steps) || differs (length (a .sheet .coupons)) (x .tranches + 1)
+    || rowsBad (a .sheet) (a .register) (a .rows)) Open
 
 -- 25: the first start, whether a start does not rise above the one before it, and the most.
 abbrev pub startsIn : (ℕ → Bool) → (ℕ → ℕ → Bool) → (Terms → ℕ) → Engine
@@ -268,6 +292,19 @@ accrualsIn most total last =
     any (a .sheet .sheet .steps) (λ i. ltb most (getD (a .sheet .sheet .accruals) i 0)) || ltb total (sumOf (a .sheet .sheet .accruals))
     || ltb (getD (a .sheet .sheet .accruals) (pred (a .sheet .sheet .steps)) 0) last) Open
 
+-- 21: the most of the fraction that stands at i in its list, for the step i + 1.
+abbrev pub elapsedTo : (Terms → ℕ → ℕ) → Engine
+elapsedTo most = tested 21 (λ a. any (a .sheet .sheet .steps) (λ i. ltb (most (a .sheet .sheet) i) (getD (a .sheet .sheet .elapsed) i 0))) Open
+
+-- The accrual of the next premium date at or after that step: T-01's limit.
+abbrev pub nextOf : Terms → ℕ → ℕ
+nextOf x i = nextAccrual (drop i (x .accruals))
+
+-- The accrual of the last premium date among steps.
+abbrev pub lastAccrual : List ℕ → ℕ
+lastAccrual [] = 0
+lastAccrual (a ∷ l) = cond (eqb (lastAccrual l) 0) a (lastAccrual l)
+
 abbrev pub couponsTo : ℕ → Engine
 couponsTo most = tested 8 (λ a. any (a .sheet .sheet .tranches + 1) (λ j. ltb most (getD (a .sheet .coupons) j 0))) Open
 
@@ -275,40 +312,43 @@ couponsTo most = tested 8 (λ a. any (a .sheet .sheet .tranches + 1) (λ j. ltb 
 abbrev pub pool : ℕ → ℕ → ℕ → Brought
 pool n m r =
     brought (record { names = n; steps = m; tranches = r; recovery = 0; number = 7 })
-    (tab (r + 1) (λ j. j)) (1 ∷ []) (replicate n 0) (replicate m 1) (replicate m 1) (replicate (r + 1) 0)
+    (tab (r + 1) (λ j. j)) (1 ∷ []) (replicate n 0) (replicate m 1) (replicate m 1) (replicate m 0) (replicate (r + 1) 0)
 
 abbrev pub poolAlone : ℕ → ℕ → ℕ → Brought
-poolAlone n m r = brought (record { names = n; steps = m; tranches = r; recovery = 0; number = 7 }) [] [] [] [] [] []
+poolAlone n m r = brought (record { names = n; steps = m; tranches = r; recovery = 0; number = 7 }) [] [] [] [] [] [] []
 
 -- One name and one tranche, and all but one of its terms plain.
-abbrev pub terms : ℕ → ℕ → ℕ → ℕ → ℕ → List ℕ → ℕ → Brought
-terms recovery low high hazard discount accruals coupon =
+abbrev pub terms : ℕ → ℕ → ℕ → ℕ → ℕ → List ℕ → List ℕ → ℕ → Brought
+terms recovery low high hazard discount accruals elapsed coupon =
     brought (record { names = 1; steps = length accruals; tranches = 1; recovery = recovery; number = 7 })
-    (low ∷ high ∷ []) (1 ∷ []) (hazard ∷ []) (replicate (length accruals) discount) accruals (0 ∷ coupon ∷ [])
+    (low ∷ high ∷ []) (1 ∷ []) (hazard ∷ []) (replicate (length accruals) discount) accruals elapsed (0 ∷ coupon ∷ [])
 
 abbrev pub ofRecovery : ℕ → Brought
-ofRecovery y = terms y 0 5 0 1 (1 ∷ []) 0
+ofRecovery y = terms y 0 5 0 1 (1 ∷ []) (0 ∷ []) 0
 
 abbrev pub ofAttachments : ℕ → ℕ → Brought
-ofAttachments low high = terms 0 low high 0 1 (1 ∷ []) 0
+ofAttachments low high = terms 0 low high 0 1 (1 ∷ []) (0 ∷ []) 0
 
 abbrev pub ofHazard : ℕ → Brought
-ofHazard y = terms 0 0 5 y 1 (1 ∷ []) 0
+ofHazard y = terms 0 0 5 y 1 (1 ∷ []) (0 ∷ []) 0
 
 -- One name and sixteen steps with these starts, and as many hazards.
 abbrev pub ofStarts : List ℕ → List ℕ → Brought
 ofStarts starts hazards =
     brought (record { names = 1; steps = 16; tranches = 1; recovery = 0; number = 7 })
-    (0 ∷ 5 ∷ []) starts hazards (replicate 16 1) (replicate 16 1) (0 ∷ 0 ∷ [])
+    (0 ∷ 5 ∷ []) starts hazards (replicate 16 1) (replicate 16 1) (replicate 16 0) (0 ∷ 0 ∷ [])
 
 abbrev pub ofDiscount : ℕ → Brought
-ofDiscount y = terms 0 0 5 0 y (1 ∷ []) 0
+ofDiscount y = terms 0 0 5 0 y (1 ∷ []) (0 ∷ []) 0
 
 abbrev pub ofAccruals : List ℕ → Brought
-ofAccruals l = terms 0 0 5 0 1 l 0
+ofAccruals l = terms 0 0 5 0 1 l (replicate (length l) 0) 0
+
+abbrev pub ofElapsed : List ℕ → List ℕ → Brought
+ofElapsed accruals elapsed = terms 0 0 5 0 1 accruals elapsed 0
 
 abbrev pub ofCoupon : ℕ → Brought
-ofCoupon y = terms 0 0 5 0 1 (1 ∷ []) y
+ofCoupon y = terms 0 0 5 0 1 (1 ∷ []) (0 ∷ []) y
 
 -- By an open of a live number, with rows of the right length.
 abbrev pub ByOpen : Engine → Brought → ℕ → Type 0
@@ -352,6 +392,23 @@ indexUnlost x j k = cond (ltb j (x .tranches)) (defaultMost x j k) (widthOf x j)
 abbrev pub trancheLeft : Terms → ℕ → ℕ → ℕ
 trancheLeft x j k = cond (ltb j (x .tranches)) (outstandingOf x j k) (defaultMost x j k)
 
+-- Premium ceilings that count otherwise the accruals after a step, the names left at a count, or the steps left, each of which gives two units.
+abbrev pub premiumsTo : (Terms → ℕ → ℕ) → (Terms → ℕ → ℕ) → (Terms → ℕ → ℕ) → SheetCall → Engine
+premiumsTo accruals names steps = ceilingsTo defaultMost (λ x i k. accruals x i + names x k + steps x i)
+
+abbrev pub accrualsAfter : Terms → ℕ → ℕ
+accrualsAfter x i = sumOf (drop i (x .accruals))
+
+abbrev pub namesLeft : Terms → ℕ → ℕ
+namesLeft x k = x .names - k
+
+abbrev pub stepsTwice : Terms → ℕ → ℕ
+stepsTwice x i = 2 * (x .steps - i)
+
+-- Premium legs of the small sheet, of which all entries but the tranche's are 0.
+abbrev pub premiumsLent : ℕ → ℕ → Rows
+premiumsLent a b = rowsOf (replicate 4 0) (a ∷ b ∷ 0 ∷ 0 ∷ [])
+
 abbrev pub stepsTo : (Inputs → ℕ) → SheetCall → Engine
 stepsTo most = tested 13 (λ a. ltb (most a) (a .steps))
 
@@ -384,8 +441,12 @@ clean = rowsOf (replicate 4 0) (replicate 4 0)
 -- The tranche jumps by -1,000,000,000,000 and the index by 1,000,001.
 abbrev pub nearScale : Inputs
 nearScale =
-    inputs (terms 1_000_000_000 0 200_000 0 1 (1_000_000_000 ∷ []) 1) live (walkAt 0)
+    inputs (terms 1_000_000_000 0 200_000 0 1 (1_000_000_000 ∷ []) (0 ∷ []) 1) live (walkAt 0)
     (rowsOf (100_000 ∷ 0 ∷ 0 ∷ 0 ∷ []) (0 ∷ 0 ∷ 1_000_001 ∷ 0 ∷ [])) [] 0 0 0
+
+-- The uneven pool at its root, with a premium leg of the tranche at the count 0.
+abbrev pub unevenlyLent : ℕ → Inputs
+unevenlyLent a = inputs (unevenly .sheet 7) live (walkAt 0) (rowsOf (replicate 8 0) (a ∷ replicate 7 0)) [] 0 0 0
 
 -- By back, value and hedge ratio, each with the fault in itself; and on the small sheet.
 pub record ByWalkCalls (e : SheetCall → Engine) (a : Inputs) (n : ℕ) : Type 0 where
@@ -452,11 +513,18 @@ pub record NoneChecks : Type 0 where
   -- An engine that judges by our tests is ours, and our tests are document 01's checks in order.
   pub unchanged : (o : SheetCall) → judging o (λ a t. t) ≡ ours
   pub in-order : (o : SheetCall) (a : Inputs) → map (λ t. refusalNumber (t .1)) (tests o a) ≡ checks o
-  -- Any check of any call left out; any two exchanged; any length tested one way only.
+  -- Any check of any call left out, 21 among them; any two exchanged, so that 21 comes before 7, or 8 before 21; any moved to the front or the end,
+  -- where its number would put 21; any length tested one way only, or not at all, that of the elapsed fractions among them.
   pub skipped : (o : SheetCall) (n : ℕ) → has n (checks o) ≡ true → RuledOut (skipping o n) (answered o (brokenFrom n n)) n
   pub exchanged : (o : SheetCall) (m n : ℕ) → breakable o m n ≡ true → RuledOut (exchanging o m n) (answered o (brokenFrom m n)) m
+  pub made-first : (o : SheetCall) (m n : ℕ) → breakable o m n ≡ true → RuledOut (firstly o n) (answered o (brokenFrom m n)) m
+  pub made-last : (o : SheetCall) (m n : ℕ) → breakable o m n ≡ true → RuledOut (lastly o m) (answered o (brokenFrom m n)) m
   pub one-way : (o : SheetCall) (i : ℕ) → has i (places o) ≡ true → (longer : Bool) →
       RuledOut (oneWay o i longer) (answered o (resized i longer)) 2
+  pub length-unseen : (o : SheetCall) (i : ℕ) → has i (places o) ≡ true → (longer : Bool) →
+      RuledOut (unmeasured o i) (answered o (resized i longer)) 2
+  -- No fractions taken for zeros, as a deck without any has them.
+  pub elapsed-none-taken : ByOpen (measuring Open 4 (λ is due. not (eqb is 0) && differs is due)) (ofElapsed (5 ∷ []) []) 2
   -- 1
   pub names-zero : ByOpen (poolLimits 0 125 1 3650 1 8) (pool 0 1 1) 1
   pub names-one-refused : ByOpen (poolLimits 2 125 1 3650 1 8) (pool 1 1 1) 0
@@ -481,7 +549,7 @@ pub record NoneChecks : Type 0 where
   pub starts-equal : ByOpen (startsIn (λ s. differs s 1) ltb (λ x. x .steps)) (ofStarts (1 ∷ 1 ∷ []) (0 ∷ 0 ∷ [])) 25
   pub start-most-refused : ByOpen (startsIn (λ s. differs s 1) leb (λ x. x .steps - 1)) (ofStarts (1 ∷ 16 ∷ []) (0 ∷ 0 ∷ [])) 0
   pub start-more : ByOpen (startsIn (λ s. differs s 1) leb (λ x. x .steps + 1)) (ofStarts (1 ∷ 17 ∷ []) (0 ∷ 0 ∷ [])) 25
-  -- 3 to 8
+  -- 3 to 8, and 21
   pub recovery-most-refused : ByOpen (recoveryTo 999_999_999) (ofRecovery 1_000_000_000) 0
   pub recovery-more : ByOpen (recoveryTo 1_000_000_001) (ofRecovery 1_000_000_001) 3
   pub attachments-equal : ByOpen (attachmentsTo ltb 1_000_000_000) (ofAttachments 5 5) 4
@@ -500,6 +568,14 @@ pub record NoneChecks : Type 0 where
   pub total-more : ByOpen (accrualsIn 1_000_000_000 10_000_000_001 1) (ofAccruals (replicate 10 1_000_000_000 ++ (1 ∷ []))) 7
   pub last-zero : ByOpen (accrualsIn 1_000_000_000 10_000_000_000 0) (ofAccruals (1 ∷ 0 ∷ [])) 7
   pub last-one-refused : ByOpen (accrualsIn 1_000_000_000 10_000_000_000 2) (ofAccruals (0 ∷ 1 ∷ [])) 0
+  pub elapsed-most-refused : ByOpen (elapsedTo (λ x i. nextOf x i - 1)) (ofElapsed (5 ∷ []) (5 ∷ [])) 0
+  pub elapsed-more : ByOpen (elapsedTo (λ x i. nextOf x i + 1)) (ofElapsed (5 ∷ []) (6 ∷ [])) 21
+  pub elapsed-by-own-step : ByOpen (elapsedTo (λ x i. getD (x .accruals) i 0)) (ofElapsed (0 ∷ 5 ∷ []) (5 ∷ 0 ∷ [])) 0
+  pub elapsed-by-date-before : ByOpen (elapsedTo (λ x i. lastAccrual (take i (x .accruals)))) (ofElapsed (9 ∷ 5 ∷ []) (0 ∷ 6 ∷ [])) 21
+  pub elapsed-by-date-until : ByOpen (elapsedTo (λ x i. lastAccrual (take (suc i) (x .accruals)))) (ofElapsed (9 ∷ 0 ∷ 5 ∷ []) (0 ∷ 6 ∷ 0 ∷ [])) 21
+  pub elapsed-by-date-after : ByOpen (elapsedTo (λ x i. nextOf x (suc i))) (ofElapsed (5 ∷ 9 ∷ []) (6 ∷ 0 ∷ [])) 21
+  pub elapsed-by-last-date : ByOpen (elapsedTo (λ x i. accrualOf x (x .steps))) (ofElapsed (5 ∷ 9 ∷ []) (6 ∷ 0 ∷ [])) 21
+  pub elapsed-by-a-year : ByOpen (elapsedTo (λ x i. 1_000_000_000)) (ofElapsed (5 ∷ []) (6 ∷ [])) 21
   pub coupon-most-refused : ByOpen (couponsTo 9_999_999) (ofCoupon 10_000_000) 0
   pub coupon-more : ByOpen (couponsTo 10_000_001) (ofCoupon 10_000_001) 8
   -- 11 and 12, in back, value and hedge ratio
@@ -508,14 +584,23 @@ pub record NoneChecks : Type 0 where
   pub position-most-refused : ByWalking (positionTo (λ x. x .steps - 1)) (walkAt 1) clean 0
   pub position-more : ByWalking (positionTo (λ x. x .steps + 1)) (walkAt 2) clean 11
   pub defaults-unseen : ByWalking defaultsUnseen (walkAt 1) (rowsOf (6 ∷ 0 ∷ 0 ∷ 0 ∷ []) (replicate 4 0)) 12
-  pub premiums-unseen : ByWalking premiumsUnseen (walkAt 1) (rowsOf (replicate 4 0) (1 ∷ 0 ∷ 0 ∷ 0 ∷ [])) 12
+  pub premiums-unseen : ByWalking premiumsUnseen (walkAt 1) (premiumsLent 2 0) 12
   pub ceiling-without-loss : ByWalking (ceilingsTo trancheUnlost premiumMost) (walkAt 1) (rowsOf (0 ∷ 1 ∷ 0 ∷ 0 ∷ []) (replicate 4 0)) 12
   pub index-ceiling-without-loss : ByWalking (ceilingsTo indexUnlost premiumMost) (walkAt 1) (rowsOf (0 ∷ 0 ∷ 0 ∷ 1 ∷ []) (replicate 4 0)) 12
   -- What a tranche has outstanding in place of what it has left to lose, where all but a unit is recovered: nothing, and all but a unit.
   pub ceiling-of-outstanding : ByWalkCalls (ceilingsTo trancheLeft premiumMost)
-      (inputs (terms 999_999_999 0 1_000_000_000 0 1 (1 ∷ []) 0) live (walkAt 1) (rowsOf (0 ∷ 1 ∷ 0 ∷ 0 ∷ []) (replicate 4 0)) (0 ∷ 0 ∷ []) 0 0 0) 0
-  pub ceiling-of-all-accruals : ByWalking (ceilingsTo defaultMost (λ x i k. sumOf (x .accruals))) (walkAt 1)
-      (rowsOf (replicate 4 0) (1 ∷ 0 ∷ 0 ∷ 0 ∷ [])) 12
+      (inputs (terms 999_999_999 0 1_000_000_000 0 1 (1 ∷ []) (0 ∷ []) 0) live (walkAt 1)
+      (rowsOf (0 ∷ 1 ∷ 0 ∷ 0 ∷ []) (replicate 4 0)) (0 ∷ 0 ∷ []) 0 0 0) 0
+  -- Of the premium legs: at the root of the uneven pool the accruals, 3 for the names and 4 for the steps; on the small sheet 4 at its root, at the
+  -- count 0, and in the last step 1 at the count 0 and 0 at the count 1.
+  pub premium-most-refused : ByWalkCalls (ceilingsTo defaultMost (λ x i k. premiumMost x i k - 1)) (unevenlyLent 503_000_007) 0
+  pub premium-more : ByWalkCalls (ceilingsTo defaultMost (λ x i k. premiumMost x i k + 1)) (unevenlyLent 503_000_008) 12
+  pub ceiling-of-accruals-alone : ByWalking (premiumsTo accrualsAfter (λ x k. 0) (λ x i. 0)) (walkAt 1) (premiumsLent 1 0) 0
+  pub ceiling-of-all-accruals : ByWalking (premiumsTo (λ x i. sumOf (x .accruals)) namesLeft stepsTwice) (walkAt 1) (premiumsLent 2 0) 12
+  pub ceiling-without-names : ByWalking (premiumsTo accrualsAfter (λ x k. 0) stepsTwice) (walkAt 1) (premiumsLent 1 0) 0
+  pub ceiling-of-all-names : ByWalking (premiumsTo accrualsAfter (λ x k. x .names) stepsTwice) (walkAt 1) (premiumsLent 0 1) 12
+  pub ceiling-of-steps-once : ByWalking (premiumsTo accrualsAfter namesLeft (λ x i. x .steps - i)) (walkAt 0) (premiumsLent 4 0) 0
+  pub ceiling-of-all-steps : ByWalking (premiumsTo accrualsAfter namesLeft (λ x i. 2 * x .steps)) (walkAt 1) (premiumsLent 2 0) 12
   -- 13, 14 and 16
   pub back-more : By Back (stepsTo (λ a. a .walk .position + 1)) 2 0 0 13
   pub forward-most-refused : By Forward (stepsTo (λ a. a .sheet .sheet .steps - 1)) 1 0 0 0
@@ -554,6 +639,7 @@ pub record NoneChecks : Type 0 where
 
 -- Each is ours, so that the fault of an engine above is the one it is named for.
 pub record Unmoved : Type 0 where
+  pub lengths : (o : SheetCall) → measuring o 4 differs ≡ ours
   pub pool : poolLimits 1 125 1 3650 1 8 ≡ ours
   pub recovery : recoveryTo 1_000_000_000 ≡ ours
   pub attachments : attachmentsTo leb 1_000_000_000 ≡ ours
@@ -562,9 +648,11 @@ pub record Unmoved : Type 0 where
   pub hazards : hazardsTo 1_000_000_000 ≡ ours
   pub discounts : discountsIn 1 1_000_000_000 ≡ ours
   pub accruals : accrualsIn 1_000_000_000 10_000_000_000 1 ≡ ours
+  pub elapsed : elapsedTo nextOf ≡ ours
   pub coupons : couponsTo 10_000_000 ≡ ours
   pub position : (o : SheetCall) → positionTo (λ x. x .steps) o ≡ ours
   pub ceilings : (o : SheetCall) → ceilingsTo defaultMost premiumMost o ≡ ours
+  pub premiums : (o : SheetCall) → premiumsTo accrualsAfter namesLeft stepsTwice o ≡ ours
   pub back-steps : stepsTo (λ a. a .walk .position) Back ≡ ours
   pub forward-steps : stepsTo (λ a. a .sheet .sheet .steps) Forward ≡ ours
   pub value-nodes : nodesTo (λ x. x .tranches) (λ x. x .names) Value ≡ ours

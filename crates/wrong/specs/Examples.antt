@@ -10,16 +10,18 @@ use Rattle.register.specs.Cut.{mayBeLeft}
 use Rattle.register.specs.Events.{blankRegister}
 use Rattle.sheet.specs.Terms.{Terms}
 use Rattle.tree.specs.Sheet.{WholePool, spanning}
-use Rattle.tree.specs.Trials.{worked, unevenPool, toppedPool, twoPeriods}
+use Rattle.tree.specs.Trials.{worked, unevenPool, toppedPool, twoPeriods, workedEarning, unevenEarning}
 use Rattle.sheet.specs.Brought.{Brought, brought}
 use Rattle.sheet.specs.Limits.{Limits}
 use Rattle.walk.specs.declared.Walk.{Walk}
 use Rattle.rows.specs.Rows.{Rows}
 use Rattle.walk.specs.Answers.{fresh, Said}
+use Rattle.figures.specs.Nodes.{jump}
 use Rattle.walk.specs.CallRules.{WalkResult, says}
 use Rattle.walk.specs.OurEngine.{ours}
 use Rattle.walk.specs.CallLists.{ownRows, otherRows, Call, issue, withdraw, opening, back, value, State, callResult, Catalogue, Run, blankState, end}
 use Rattle.walk.specs.Accuracy.{Walked, heldD, heldA}
+use Rattle.walk.specs.Risk.{hedging}
 use Rattle.walk.specs.Power.{Operation, call, ratio, forward, operate, Event, returned, cutIn, stateAfterEvents, everWithdrew}
 use Rattle.walk.specs.Promise.{blankRun}
 
@@ -112,6 +114,7 @@ parted =
       hazards = 123_456_789 ∷ 234_567_891 ∷ 345_678_912 ∷ [];
       discounts = 987_654_321 ∷ 976_543_210 ∷ [];
       accruals = 250_000_000 ∷ 253_000_000 ∷ [];
+      elapsed = 0 ∷ 0 ∷ [];
     }) (3 ∷ 2 ∷ 1 ∷ [])
 
 abbrev pub whole : Catalogue
@@ -182,6 +185,69 @@ pub record PeriodsWalked : Type 0 where
   pub distribution : ours .forward (changing .sheet 7) live (replicate 3 5) 3
       ≡ record { said = says []; row = 567_000_000 ∷ 345_000_000 ∷ 88_000_000 ∷ [] }
 
+-- ---- premium earned up to a default
+
+abbrev pub earning : Catalogue
+earning = catalogueOf workedEarning (1_000_000 ∷ 500_000 ∷ [])
+
+abbrev pub earningScript : Script
+earningScript =
+    (issue 7, says []) ∷ (opening 7 (otherRows used), says []) ∷ (back 7 ownRows 2, says (pos 0 ∷ []))
+    ∷ (value 7 ownRows 0 0, says (pos 54_300_000 ∷ pos 251_925_000 ∷ pos 291_075_000_000_000 ∷ []))
+    ∷ (value 7 ownRows 1 0, says (pos 59_700_000 ∷ pos 867_625_000 ∷ pos 163_187_500_000_000 ∷ [])) ∷ []
+
+abbrev pub earningRun : Run
+earningRun = blankRun earning used toRoot
+
+-- The deck with elapsed fractions: its default legs are the deck's, its premium legs are worth more.
+pub record ElapsedWalked : Type 0 where
+  pub within : Limits (earning .sheet 7)
+  pub listing : Plays earning earningScript
+  pub walked : Walked ours earningRun 7 2
+  pub defaults : end ours earningRun .rows .defaults ≡ root .rows .defaults
+  pub premiums : end ours earningRun .rows .premiums ≡ 251_925_000 ∷ 0 ∷ 0 ∷ 867_625_000 ∷ 392_000_000 ∷ 0 ∷ []
+
+-- The uneven pool with them.
+abbrev pub unevenly : Catalogue
+unevenly = catalogueOf unevenEarning (7 ∷ 1 ∷ [])
+
+abbrev pub unevenlyRun : Run
+unevenlyRun = blankRun unevenly used (issue 7 ∷ opening 7 (otherRows (constantRows 8 0)) ∷ back 7 ownRows 2 ∷ [])
+
+-- ---- a negative jump on walked rows
+
+-- No name defaults from the count 0, and from the count 1 one does for sure. What the last step pays is discounted to nearly nothing.
+abbrev pub paidEarly : Catalogue
+paidEarly =
+    catalogueOf
+    (record {
+      names = 2;
+      steps = 2;
+      tranches = 1;
+      recovery = 900_000_000;
+      attachments = 0 ∷ 50_000_000 ∷ [];
+      starts = 1 ∷ [];
+      hazards = 0 ∷ 1_000_000_000 ∷ [];
+      discounts = 1_000_000_000 ∷ 1 ∷ [];
+      accruals = 0 ∷ 1_000_000_000 ∷ [];
+      elapsed = 1_000_000_000 ∷ 0 ∷ [];
+    }) (0 ∷ 10_000_000 ∷ [])
+
+abbrev pub earlyRun : Run
+earlyRun = blankRun paidEarly used toRoot
+
+-- From the count 1 a default into the first step pays a year's premium at once; from the count 0 all premium falls due in the last step, worth
+-- nearly nothing. So a default raises the index's premium leg by more than it raises what defaults pay: the index's jump is negative, and with it
+-- the hedge ratio of a tranche without coupon. Where no fraction is paid neither can be (`NeverNegative` of walk's specs/Risk.antt).
+pub record NegativeWalked : Type 0 where
+  pub within : Limits (paidEarly .sheet 7)
+  pub walked : Walked ours earlyRun 7 2
+  pub defaults : end ours earlyRun .rows .defaults ≡ 0 ∷ 0 ∷ 0 ∷ 0 ∷ 50_000_000 ∷ 0 ∷ []
+  pub premiums : end ours earlyRun .rows .premiums ≡ 0 ∷ 0 ∷ 0 ∷ 1 ∷ 500_000_000 ∷ 0 ∷ []
+  pub tranche-jump : jump (paidEarly .sheet 7) (end ours earlyRun .rows) 0 0 ≡ pos 500_000_000_000_000
+  pub index-jump : jump (paidEarly .sheet 7) (end ours earlyRun .rows) 1 0 ≡ negsuc 3_999_999_989_999_999
+  pub ratio : hedging ours earlyRun 7 0 0 .said ≡ says (negsuc 124_999 ∷ [])
+
 -- ---- refusals
 
 -- A list in which most calls are refused.
@@ -196,26 +262,27 @@ refusedScript =
     ∷ (back 7 ownRows 1, refused 13) ∷ (value 7 ownRows 0 0, says (pos 54_300_000 ∷ pos 218_700_000 ∷ pos 324_300_000_000_000 ∷ [])) ∷ []
 
 -- An open of a sheet of one step and one tranche, mostly of one name.
-abbrev pub openedWith : ℕ → ℕ → List ℕ → ℕ → ℕ → ℕ → ℕ → Said
-openedWith names recovery attachments hazard discount accrual coupon =
+abbrev pub openedWith : ℕ → ℕ → List ℕ → ℕ → ℕ → ℕ → ℕ → ℕ → Said
+openedWith names recovery attachments hazard discount accrual elapsed coupon =
     ours .opening
     (brought (record { names = names; steps = 1; tranches = 1; recovery = recovery; number = 7 })
-    attachments (1 ∷ []) (hazard ∷ []) (discount ∷ []) (accrual ∷ []) (coupon ∷ 0 ∷ []))
+    attachments (1 ∷ []) (hazard ∷ []) (discount ∷ []) (accrual ∷ []) (elapsed ∷ []) (coupon ∷ 0 ∷ []))
     live fresh (constantRows 4 0) .said
 
 pub record Refusals : Type 0 where
   pub listing : Plays deck refusedScript
-  pub inside : openedWith 1 1_000_000_000 (0 ∷ 1_000_000_000 ∷ []) 1_000_000_000 1 1 10_000_000 ≡ says []
-  pub pool : openedWith 0 0 (0 ∷ 5 ∷ []) 0 1 1 0 ≡ refused 1
-  pub length : openedWith 1 0 (0 ∷ 5 ∷ 9 ∷ []) 0 1 1 0 ≡ refused 2
-  pub recovery : openedWith 1 1_000_000_001 (0 ∷ 5 ∷ []) 0 1 1 0 ≡ refused 3
-  pub flat : openedWith 1 0 (5 ∷ 5 ∷ []) 0 1 1 0 ≡ refused 4
-  pub above : openedWith 1 0 (0 ∷ 1_000_000_001 ∷ []) 0 1 1 0 ≡ refused 4
-  pub hazard : openedWith 1 0 (0 ∷ 5 ∷ []) 1_000_000_001 1 1 0 ≡ refused 5
-  pub discount : openedWith 1 0 (0 ∷ 5 ∷ []) 0 0 1 0 ≡ refused 6
-  pub accrual : openedWith 1 0 (0 ∷ 5 ∷ []) 0 1 0 0 ≡ refused 7
-  pub coupon : openedWith 1 0 (0 ∷ 5 ∷ []) 0 1 1 10_000_001 ≡ refused 8
-  pub first : openedWith 1 1_000_000_001 (5 ∷ 5 ∷ []) 1_000_000_001 0 0 10_000_001 ≡ refused 3
+  pub inside : openedWith 1 1_000_000_000 (0 ∷ 1_000_000_000 ∷ []) 1_000_000_000 1 1 1 10_000_000 ≡ says []
+  pub pool : openedWith 0 0 (0 ∷ 5 ∷ []) 0 1 1 0 0 ≡ refused 1
+  pub length : openedWith 1 0 (0 ∷ 5 ∷ 9 ∷ []) 0 1 1 0 0 ≡ refused 2
+  pub recovery : openedWith 1 1_000_000_001 (0 ∷ 5 ∷ []) 0 1 1 0 0 ≡ refused 3
+  pub flat : openedWith 1 0 (5 ∷ 5 ∷ []) 0 1 1 0 0 ≡ refused 4
+  pub above : openedWith 1 0 (0 ∷ 1_000_000_001 ∷ []) 0 1 1 0 0 ≡ refused 4
+  pub hazard : openedWith 1 0 (0 ∷ 5 ∷ []) 1_000_000_001 1 1 0 0 ≡ refused 5
+  pub discount : openedWith 1 0 (0 ∷ 5 ∷ []) 0 0 1 0 0 ≡ refused 6
+  pub accrual : openedWith 1 0 (0 ∷ 5 ∷ []) 0 1 0 1 0 ≡ refused 7
+  pub elapsed : openedWith 1 0 (0 ∷ 5 ∷ []) 0 1 1 2 10_000_001 ≡ refused 21
+  pub coupon : openedWith 1 0 (0 ∷ 5 ∷ []) 0 1 1 0 10_000_001 ≡ refused 8
+  pub first : openedWith 1 1_000_000_001 (5 ∷ 5 ∷ []) 1_000_000_001 0 0 1 10_000_001 ≡ refused 3
 
 -- ---- hedge ratios on rows lent from elsewhere
 

@@ -4,24 +4,24 @@ use Prim.Native.Nat.{ℕ, zero, suc, pred, _+_, _-_, _*_, _/_, _%_, _^_, _≤_, 
 use mathlib.Core.Path.{_≡_}
 use mathlib.Core.Bool.{cond}
 use mathlib.Core.List.{List, [], _∷_}
-use lib.ListN.{length, getD, replicate}
+use lib.ListN.{length, getD, drop, replicate}
 use lib.Dec.{ltb, eqb}
 use lib.IntN.{ℤ, pos, natAbs, _+ℤ_, _-ℤ_, _*ℤ_}
 use Rattle.cash.specs.declared.Node.{Node}
 use Rattle.cash.specs.Units.{B, half}
 use Rattle.cash.specs.Near.{Near}
 use Rattle.cash.specs.Sums.{sumTo}
-use Rattle.cash.specs.Losses.{trancheLoss, trancheRecovery, trancheOutstanding, indexOutstanding}
+use Rattle.cash.specs.Losses.{trancheLoss, trancheRecovery, trancheOutstanding, indexOutstanding, premiumPayment, elapsedPayment}
 use Rattle.cash.specs.Hedges.{netValue, changeOf, jumpOf, negative, unlike, withSign, millionths, ratioOf}
-use Rattle.tree.specs.Paths.{survive, default}
-use Rattle.tree.specs.Backward.{rollNode, Leg}
-use Rattle.tree.specs.Legs.{defaultLeg, premiumLeg}
-use Rattle.sheet.specs.Terms.{Terms}
+use Rattle.tree.specs.Paths.{survive, default, Cash}
+use Rattle.tree.specs.Backward.{rollNode, Leg, legExact}
+use Rattle.tree.specs.Legs.{premiumCash, elapsedCash, defaultLeg, dateLeg, elapsedLeg, premiumLeg}
+use Rattle.sheet.specs.Terms.{Terms, sumOf}
 use Rattle.sheet.specs.Periods.{begun, periodOf, hazardsInto}
-use Rattle.tree.specs.Sheet.{hazardOf, discountOf, accrualOf, poolLossOf, poolRecoveryOf, lossOf, widthOf, outstandingOf}
-use Rattle.tree.specs.Sheet.{treeOf, defaultOf, premiumOf, dates, WholePool, spanning}
+use Rattle.tree.specs.Sheet.{hazardOf, discountOf, accrualOf, elapsedOf, poolLossOf, poolRecoveryOf, lossOf, widthOf, outstandingOf}
+use Rattle.tree.specs.Sheet.{treeOf, defaultOf, premiumOf, exactA, dates, elapsedCount, premiumHalves, WholePool, spanning}
 use Rattle.tree.specs.Forward.{same, outflow, fromBelow, pushed, errors}
-use Rattle.tree.specs.Trials.{units, slivers, drifting}
+use Rattle.tree.specs.Trials.{units, slivers, drifting, fourHalves, workedEarning}
 use Rattle.rows.specs.Tables.{tab}
 use Rattle.rows.specs.Rows.{nodeIn, rowOf, rolled, Rows}
 use Rattle.sheet.specs.Brought.{Brought}
@@ -31,11 +31,12 @@ use Rattle.figures.specs.Nodes.{nodeOf, jump}
 use Rattle.walk.specs.CallRules.{says}
 use Rattle.walk.specs.Engine.{Engine}
 use Rattle.walk.specs.OurEngine.{ours}
-use Rattle.walk.specs.CallLists.{ownRows as sameRows, otherRows, issue, opening, back, Catalogue, Run, end}
+use Rattle.walk.specs.CallLists.{ownRows as sameRows, otherRows, issue, opening, back, value, Catalogue, Run, end, answers}
 use Rattle.walk.specs.Accuracy.{Walked, heldD, heldA}
 use Rattle.walk.specs.Promise.{Rules, Demand3, blankRun}
-use Rattle.wrong.specs.Substitutes.{withSaid, byAnswer, valueBy, forwardBy, backRows, backNodes, valueNets, ratioOfRows}
+use Rattle.wrong.specs.Substitutes.{withSaid, byAnswer, valueBy, forwardBy, backRows, backNodes, paying, backPremiums, valueNets, ratioOfRows}
 use Rattle.wrong.specs.Examples.{catalogueOf, constantRows, used, deck, root, ratioOn, whole, wholeRun, toppedRun, changing, periodsRun, live}
+use Rattle.wrong.specs.Examples.{earningRun, unevenlyRun}
 
 -- ---- back: both rows by other steps
 
@@ -62,8 +63,8 @@ backSteps d a =
 abbrev backOn : (Terms → Terms) → Engine
 backOn f = backSteps (λ x. rolled (f x) (defaultOf (f x))) (λ x. rolled (f x) (premiumOf (f x)))
 
-abbrev sheetWith : Terms → ℕ → List ℕ → List ℕ → Terms
-sheetWith x recovery discounts accruals =
+abbrev sheetWith : Terms → ℕ → List ℕ → List ℕ → List ℕ → Terms
+sheetWith x recovery discounts accruals elapsed =
     record {
       names = x .names;
       steps = x .steps;
@@ -74,22 +75,27 @@ sheetWith x recovery discounts accruals =
       hazards = x .hazards;
       discounts = discounts;
       accruals = accruals;
+      elapsed = elapsed;
     }
 
 -- Losses as if nothing were recovered.
 abbrev pub recoveryIgnored : Engine
-recoveryIgnored = backOn (λ x. sheetWith x 0 (x .discounts) (x .accruals))
+recoveryIgnored = backOn (λ x. sheetWith x 0 (x .discounts) (x .accruals) (x .elapsed))
 
 -- v(i) and a(i) for v(i + 1) and a(i + 1).
 abbrev pub discountBefore : Engine
-discountBefore = backOn (λ x. sheetWith x (x .recovery) (B ∷ x .discounts) (x .accruals))
+discountBefore = backOn (λ x. sheetWith x (x .recovery) (B ∷ x .discounts) (x .accruals) (x .elapsed))
 
 abbrev pub accrualBefore : Engine
-accrualBefore = backOn (λ x. sheetWith x (x .recovery) (x .discounts) (0 ∷ x .accruals))
+accrualBefore = backOn (λ x. sheetWith x (x .recovery) (x .discounts) (0 ∷ x .accruals) (x .elapsed))
+
+-- e(i) for e(i + 1): the fraction of the step moved from.
+abbrev pub elapsedMovedFrom : Engine
+elapsedMovedFrom = backOn (λ x. sheetWith x (x .recovery) (x .discounts) (x .accruals) (0 ∷ x .elapsed))
 
 -- The last accrual at every step, also where none falls due.
 abbrev pub premiumEveryStep : Engine
-premiumEveryStep = backOn (λ x. sheetWith x (x .recovery) (x .discounts) (replicate (x .steps) (accrualOf x (x .steps))))
+premiumEveryStep = backOn (λ x. sheetWith x (x .recovery) (x .discounts) (replicate (x .steps) (accrualOf x (x .steps))) (x .elapsed))
 
 -- Survival for a default and a default for survival.
 abbrev pub movesExchanged : Engine
@@ -155,8 +161,7 @@ defaultUnpaid = backLegs (λ x j. defaultLeg (λ k. 0)) premiumOf
 
 -- A leg with the rounded cash of another besides.
 abbrev besides : Leg → Leg → Leg
-besides g h =
-    record { exactly = g .exactly; rounded = λ s k m. g .rounded s k m + h .rounded s k m; halves = g .halves }
+besides g h = paying g (λ s k m. g .rounded s k m + h .rounded s k m)
 
 abbrev pub defaultInPremiums : Engine
 defaultInPremiums = backLegs defaultOf (λ x j. besides (premiumOf x j) (defaultOf x j))
@@ -169,7 +174,7 @@ abbrev backLosses : (Terms → ℕ → ℕ → ℕ) → Engine
 backLosses M =
     backLegs (λ x j. defaultLeg (M x j))
     (λ x j.
-    premiumLeg (accrualOf x) (λ k.
+    premiumLeg (accrualOf x) (elapsedOf x) (λ k.
     cond (ltb j (x .tranches))
     (widthOf x j - M x j k - trancheRecovery (getD (x .attachments) j 0) (getD (x .attachments) (suc j) 0) (poolRecoveryOf x k))
     (outstandingOf x j k)))
@@ -193,7 +198,7 @@ lossRoundedUp =
 
 -- O(k) by another rule.
 abbrev backOutstandings : (Terms → ℕ → ℕ → ℕ) → Engine
-backOutstandings O = backLegs defaultOf (λ x j. premiumLeg (accrualOf x) (O x j))
+backOutstandings O = backLegs defaultOf (λ x j. premiumLeg (accrualOf x) (elapsedOf x) (O x j))
 
 -- O(k) of the index alone by another rule.
 abbrev backIndex : (Terms → ℕ → ℕ) → Engine
@@ -241,7 +246,7 @@ recoveryRoundedUp =
 abbrev weighed : Terms → ℕ → ℕ → ℕ → ℕ → ℕ
 weighed x i k defaulted survived = half (hazardOf x (suc i) k * defaulted + (B - hazardOf x (suc i) k) * survived)
 
--- The premium of a date on the count after the step, added late:
+-- The premium of a step, added late:
 -- by a rule of the discount, what the chance left of the row, and what it left of the premium.
 abbrev late : (ℕ → ℕ → ℕ → ℕ) → Step
 late f x i row =
@@ -259,6 +264,66 @@ premiumAfterRoll = backLate (λ discount figure premium. half (discount * figure
 -- After the chance and before the discount: a rounding of its own.
 abbrev pub premiumAfterChance : Engine
 premiumAfterChance = backLate (λ discount figure premium. half (discount * (figure + premium)))
+
+-- ---- back: the premium earned up to a default
+
+-- By other cash, beside the premium of the step.
+abbrev backElapsed : (Terms → ℕ → Cash) → Engine
+backElapsed cash = backPremiums (λ x j s k m. premiumCash (accrualOf x) (outstandingOf x j) s k m + cash x j s k m)
+
+-- By another rule of the fraction, O(k) and O(k + 1).
+abbrev upTo : (ℕ → ℕ → ℕ → ℕ) → Terms → ℕ → Cash
+upTo rule x j s k default = rule (elapsedOf x s) (outstandingOf x j k) (outstandingOf x j (suc k))
+upTo rule x j s k survive = 0
+
+abbrev pub elapsedUnpaid : Engine
+elapsedUnpaid = backElapsed (upTo (λ fraction before after. 0))
+
+-- On all that is outstanding before the default, or after it.
+abbrev pub elapsedOnBefore : Engine
+elapsedOnBefore = backElapsed (upTo (λ fraction before after. half (fraction * before)))
+
+abbrev pub elapsedOnAfter : Engine
+elapsedOnAfter = backElapsed (upTo (λ fraction before after. half (fraction * after)))
+
+abbrev pub elapsedRoundedDown : Engine
+elapsedRoundedDown = backElapsed (upTo (λ fraction before after. fraction * (before - after) / B))
+
+-- On what the default costs the tranche: what is recovered earns nothing.
+abbrev pub elapsedOnLoss : Engine
+elapsedOnLoss = backElapsed (λ x j. elapsedCash (elapsedOf x) (λ k. widthOf x j - lossOf x j k))
+
+-- Paid on survival too.
+abbrev pub elapsedOnSurvival : Engine
+elapsedOnSurvival = backElapsed (λ x j s k m. elapsedPayment (elapsedOf x s) (outstandingOf x j k) (outstandingOf x j (suc k)))
+
+-- Paid only into a step that is a premium date, or only into one that is none.
+abbrev pub elapsedOnDates : Engine
+elapsedOnDates = backElapsed (λ x j s k m. cond (eqb (accrualOf x s) 0) 0 (elapsedCash (elapsedOf x) (outstandingOf x j) s k m))
+
+abbrev pub elapsedOffDates : Engine
+elapsedOffDates = backElapsed (λ x j s k m. cond (eqb (accrualOf x s) 0) (elapsedCash (elapsedOf x) (outstandingOf x j) s k m) 0)
+
+-- Of the tranches alone.
+abbrev pub elapsedNotOfIndex : Engine
+elapsedNotOfIndex = backElapsed (λ x j s k m. cond (ltb j (x .tranches)) (elapsedCash (elapsedOf x) (outstandingOf x j) s k m) 0)
+
+-- One rounding for both premiums of a step.
+abbrev pub elapsedRoundedTogether : Engine
+elapsedRoundedTogether = backPremiums (λ x j s k m. half (premiumOf x j .exactly s k m))
+
+-- A default pays it in place of the premium of the date.
+abbrev elapsedInstead : Terms → ℕ → Cash
+elapsedInstead x j s k default = elapsedPayment (elapsedOf x s) (outstandingOf x j k) (outstandingOf x j (suc k))
+elapsedInstead x j s k survive = premiumPayment (accrualOf x s) (outstandingOf x j k)
+
+abbrev pub elapsedForDate : Engine
+elapsedForDate = backPremiums elapsedInstead
+
+-- It is paid to the other side, with what the default pays.
+abbrev pub elapsedInDefaults : Engine
+elapsedInDefaults =
+    backLegs (λ x j. besides (defaultOf x j) (elapsedLeg (elapsedOf x) (outstandingOf x j))) (λ x j. dateLeg (accrualOf x) (outstandingOf x j))
 
 -- ---- value
 
@@ -394,6 +459,7 @@ pub record NoneFigures : Type 0 where
   pub recovery-ignored : Demand3 recoveryIgnored → ⊥
   pub discount-before : Demand3 discountBefore → ⊥
   pub accrual-before : Demand3 accrualBefore → ⊥
+  pub elapsed-moved-from : Demand3 elapsedMovedFrom → ⊥
   pub premium-every-step : Demand3 premiumEveryStep → ⊥
   pub moves-exchanged : Demand3 movesExchanged → ⊥
   pub hazard-of-next : Demand3 hazardOfNext → ⊥
@@ -419,6 +485,18 @@ pub record NoneFigures : Type 0 where
   pub recovery-rounded-up : Demand3 recoveryRoundedUp → ⊥
   pub premium-after-roll : Demand3 premiumAfterRoll → ⊥
   pub premium-after-chance : Demand3 premiumAfterChance → ⊥
+  pub elapsed-unpaid : Demand3 elapsedUnpaid → ⊥
+  pub elapsed-on-before : Demand3 elapsedOnBefore → ⊥
+  pub elapsed-on-after : Demand3 elapsedOnAfter → ⊥
+  pub elapsed-rounded-down : Demand3 elapsedRoundedDown → ⊥
+  pub elapsed-on-loss : Demand3 elapsedOnLoss → ⊥
+  pub elapsed-on-survival : Demand3 elapsedOnSurvival → ⊥
+  pub elapsed-on-dates : Demand3 elapsedOnDates → ⊥
+  pub elapsed-off-dates : Demand3 elapsedOffDates → ⊥
+  pub elapsed-not-of-index : Demand3 elapsedNotOfIndex → ⊥
+  pub elapsed-rounded-together : Demand3 elapsedRoundedTogether → ⊥
+  pub elapsed-for-date : Demand3 elapsedForDate → ⊥
+  pub elapsed-in-defaults : Demand3 elapsedInDefaults → ⊥
   pub net-factor-short : Demand3 netFactorShort → ⊥
   pub net-legs-exchanged : Demand3 netLegsExchanged → ⊥
   pub net-reversed : Demand3 netReversed → ⊥
@@ -440,19 +518,22 @@ pub record NoneFigures : Type 0 where
 
 -- ---- the families with nothing changed
 
--- Each is ours on the uneven pool, the deck or the pool that is recovered from, so that the fault of an engine above is the one it is named for.
+-- Each is ours on the uneven pool, with elapsed fractions or without, the deck or the pool that is recovered from, so that the fault of an engine
+-- above is the one it is named for.
 pub record Unchanged : Type 0 where
-  pub sheet : end (backOn (λ x. x)) wholeRun ≡ end ours wholeRun
+  pub sheet : end (backOn (λ x. x)) unevenlyRun ≡ end ours unevenlyRun
   pub chances : end (backChances hazardOf) wholeRun ≡ end ours wholeRun
   pub periods : end (backChances (inPeriod (λ x. periodOf (x .starts)))) periodsRun ≡ end ours periodsRun
   pub forward-periods : forwardRow (λ x q. distributionBy (movesBy half (inPeriod (λ y. periodOf (y .starts))) x) first) .forward
       (changing .sheet 7) live (replicate 3 5) 3 ≡ ours .forward (changing .sheet 7) live (replicate 3 5) 3
-  pub legs : end (backLegs defaultOf premiumOf) wholeRun ≡ end ours wholeRun
-  pub losses : end (backLosses lossOf) wholeRun ≡ end ours wholeRun
+  pub legs : end (backLegs defaultOf premiumOf) unevenlyRun ≡ end ours unevenlyRun
+  pub losses : end (backLosses lossOf) unevenlyRun ≡ end ours unevenlyRun
   pub losses-at-the-top : end (backLosses lossOf) toppedRun ≡ end ours toppedRun
   pub outstandings : end (backOutstandings outstandingOf) toppedRun ≡ end ours toppedRun
   pub index : end (backIndex (λ x. outstandingOf x (x .tranches))) toppedRun ≡ end ours toppedRun
   pub tranches : end (backTranches trancheOutstanding) toppedRun ≡ end ours toppedRun
+  pub premiums : end (backPremiums (λ x j. premiumOf x j .rounded)) unevenlyRun ≡ end ours unevenlyRun
+  pub elapsed : end (backElapsed (upTo elapsedPayment)) unevenlyRun ≡ end ours unevenlyRun
   pub nets : valueNets (λ x j d a. netValue d (getD (x .coupons) j 0) a) .value (deck .sheet 7) (root .register) (root .walk) (root .rows) 0 0
       ≡ ours .value (deck .sheet 7) (root .register) (root .walk) (root .rows) 0 0
   pub jumps : ratioOfJumps jumpOf .ratio (deck .sheet 7) (root .register) (root .walk) (root .rows) 0 0 ≡ ratioOn (root .rows) 0 0
@@ -475,12 +556,12 @@ unitsRun = blankRun unitsCatalogue used (issue 5 ∷ opening 5 (otherRows (const
 abbrev pub spannedRun : Run
 spannedRun = blankRun spannedCatalogue used (issue 7 ∷ opening 7 (otherRows (constantRows 4 0)) ∷ back 7 sameRows 1 ∷ [])
 
--- Their legs do not add to those of the one within the distances alone, h = 1 and (doubled) 2 h + q = 3, so that demand 3 needs a factor above 1.
+-- Their legs do not add to those of the one within the distances alone, h = 1 and (doubled) 2 h + q + f = 3: demand 3 needs a factor above 1.
 pub record FactorNeeded : Type 0 where
   pub within : Limits (unitsCatalogue .sheet 5)
   pub walked : Walked ours unitsRun 5 1
   pub spanned-walked : Walked ours spannedRun 7 1
-  pub dates : dates units 1 0 ≡ 1
+  pub halves : premiumHalves units 1 0 ≡ 3
   pub defaults : ¬ (Near (1 * 1) (sumTo 8 (λ j. heldD ours unitsRun units j 0)) (heldD ours spannedRun (spanning units) 0 0))
   pub premiums : ¬ (Near (1 * 3) (2 * sumTo 8 (λ j. heldA ours unitsRun units j 0)) (2 * heldA ours spannedRun (spanning units) 0 0))
 
@@ -495,8 +576,54 @@ pub record IndexFactorNeeded : Type 0 where
   pub within : Limits (sliversCatalogue .sheet 5)
   pub points : WholePool slivers
   pub walked : Walked ours sliversRun 5 1
-  pub dates : dates slivers 1 0 ≡ 1
+  pub halves : premiumHalves slivers 1 0 ≡ 3
   pub premiums : ¬ (Near (1 * 3) (2 * sumTo 8 (λ j. heldA ours sliversRun slivers j 0)) (2 * heldA ours sliversRun slivers 8 0))
+
+-- A step whose roundings all add.
+abbrev pub halvesCatalogue : Catalogue
+halvesCatalogue = catalogueOf fourHalves (replicate 2 0)
+
+abbrev pub halvesRun : Run
+halvesRun = blankRun halvesCatalogue used (issue 7 ∷ opening 7 sameRows ∷ back 7 sameRows 1 ∷ [])
+
+-- Its premium leg lies nearly 2 units from the exact value, which 2 h + q + f = 4 (doubled) allows and 2 h + q = 3 does not.
+-- The exact value needs the premium up to a default: without it the deck's premium leg lies further from it than the distance.
+pub record ElapsedHalfNeeded : Type 0 where
+  pub within : Limits (halvesCatalogue .sheet 7)
+  pub walked : Walked ours halvesRun 7 1
+  pub dates : dates fourHalves 1 0 ≡ 1
+  pub elapsed : elapsedCount fourHalves 1 0 ≡ 1
+  pub halves : premiumHalves fourHalves 1 0 ≡ 4
+  pub premium : ¬ (Near (3 * B ^ 3) (2 * (heldA ours halvesRun fourHalves 1 0 * B ^ 3)) (2 * exactA fourHalves 1 1 0 0))
+  pub path-sum : ¬ (Near (premiumHalves workedEarning 2 0 * B ^ 5) (2 * (heldA ours earningRun workedEarning 0 0 * B ^ 5))
+      (2 * legExact (treeOf workedEarning) (dateLeg (accrualOf workedEarning) (outstandingOf workedEarning 0)) 2 0 0))
+
+-- A billionth of a year on either half of the pool is rounded up to a unit: the premium of the date, and that of the default.
+abbrev pub twoUnits : Catalogue
+twoUnits =
+    catalogueOf
+    (record {
+      names = 2;
+      steps = 1;
+      tranches = 1;
+      recovery = 0;
+      attachments = 0 ∷ 1_000_000_000 ∷ [];
+      starts = 1 ∷ [];
+      hazards = 1_000_000_000 ∷ 0 ∷ [];
+      discounts = 1_000_000_000 ∷ [];
+      accruals = 1 ∷ [];
+      elapsed = 1 ∷ [];
+    }) (replicate 2 0)
+
+abbrev pub twoUnitsRun : Run
+twoUnitsRun = blankRun twoUnits used (issue 7 ∷ opening 7 sameRows ∷ back 7 sameRows 1 ∷ [])
+
+-- So a walk leads above the accruals to come, which were the ceiling before T-01, and its rows are still taken.
+pub record CeilingNeeded : Type 0 where
+  pub within : Limits (twoUnits .sheet 7)
+  pub walked : Walked ours twoUnitsRun 7 1
+  pub over : ¬ (heldA ours twoUnitsRun (twoUnits .sheet 7 .sheet) 1 0 ≤ sumOf (drop 0 (twoUnits .sheet 7 .sheet .accruals)))
+  pub taken : answers ours twoUnitsRun (value 7 sameRows 1 0) ≡ says (pos 500_000_000 ∷ pos 2 ∷ pos 5_000_000_000_000_000 ∷ [])
 
 -- The errors of a distribution may total more than a unit a step, so that i alone is no bound: it needs a factor.
 pub record NamesNeeded : Type 0 where

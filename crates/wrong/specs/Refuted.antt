@@ -24,17 +24,20 @@ use Rattle.wrong.specs.Checks.{Value, skipping}
 abbrev pub ceilingsPassed : Engine
 ceilingsPassed = skipping Value 12
 
--- What is early in the orders of four calls, at any operands: 9, and 25 where a sheet is brought, and not what stands behind 9.
+-- What is early in the orders of four calls, at any operands: 9, and 21 and 25 where a sheet is brought, and not what stands behind 9.
 pub record EarlyNumbers : Type 0 where
+  pub value-21 : (x : Brought) (g : List ℕ) (w : Walk) (l : Rows) (j k : ℕ) → isEarly (valueOrder x g w l j k) 21 ≡ true
   pub value-25 : (x : Brought) (g : List ℕ) (w : Walk) (l : Rows) (j k : ℕ) → isEarly (valueOrder x g w l j k) 25 ≡ true
   pub value-9 : (x : Brought) (g : List ℕ) (w : Walk) (l : Rows) (j k : ℕ) → isEarly (valueOrder x g w l j k) 9 ≡ true
   pub value-10 : (x : Brought) (g : List ℕ) (w : Walk) (l : Rows) (j k : ℕ) → isEarly (valueOrder x g w l j k) 10 ≡ false
   pub value-11 : (x : Brought) (g : List ℕ) (w : Walk) (l : Rows) (j k : ℕ) → isEarly (valueOrder x g w l j k) 11 ≡ false
   pub value-14 : (x : Brought) (g : List ℕ) (w : Walk) (l : Rows) (j k : ℕ) → isEarly (valueOrder x g w l j k) 14 ≡ false
+  pub forward-21 : (x : Brought) (g row : List ℕ) (i : ℕ) → isEarly (forwardOrder x g row i) 21 ≡ true
   pub forward-25 : (x : Brought) (g row : List ℕ) (i : ℕ) → isEarly (forwardOrder x g row i) 25 ≡ true
   pub forward-13 : (x : Brought) (g row : List ℕ) (i : ℕ) → isEarly (forwardOrder x g row i) 13 ≡ false
   pub withdraw-10 : (g : List ℕ) (y : ℕ) → isEarly (withdrawOrder g y) 10 ≡ false
   pub issue-17 : (g : List ℕ) (y : ℕ) → isEarly (issueOrder g y) 17 ≡ false
+  pub issue-21 : (g : List ℕ) (y : ℕ) → isEarly (issueOrder g y) 21 ≡ false
   pub issue-25 : (g : List ℕ) (y : ℕ) → isEarly (issueOrder g y) 25 ≡ false
 
 -- The power, of every list of events, and what a write clears: two parts of the whole promise (`Keeps`).

@@ -10,11 +10,11 @@ use Rattle.cash.specs.Units.{B, half}
 use Rattle.cash.specs.Losses.{premiumPayment}
 use Rattle.cash.specs.Hedges.{netValue, jumpOf, negative, unlike, withSign, millionths, ratioOf}
 use Rattle.register.specs.Register.{statusIn}
-use Rattle.tree.specs.Paths.{survive, default, countAfter}
+use Rattle.tree.specs.Paths.{survive, default, countAfter, Cash}
 use Rattle.tree.specs.Backward.{Leg}
-use Rattle.tree.specs.Legs.{premiumLeg}
+use Rattle.tree.specs.Legs.{elapsedCash, premiumLeg}
 use Rattle.sheet.specs.Terms.{Terms}
-use Rattle.tree.specs.Sheet.{hazardOf, discountOf, accrualOf, poolLossOf, outstandingOf, defaultOf, premiumOf}
+use Rattle.tree.specs.Sheet.{hazardOf, discountOf, accrualOf, elapsedOf, poolLossOf, outstandingOf, defaultOf, premiumOf}
 use Rattle.rows.specs.Tables.{tab}
 use Rattle.rows.specs.Rows.{nodeIn, rowOf, rolledBack, distributionRow, Rows}
 use Rattle.sheet.specs.Brought.{Brought}
@@ -271,35 +271,36 @@ oneRounding =
 abbrev pub roundedDown : Engine
 roundedDown = backNodes (λ hazard discount defaulted survived. discount * ((hazard * defaulted + (B - hazard) * survived) / B) / B)
 
--- Premiums by another leg.
-abbrev backPremiums : (Terms → ℕ → Leg) → Engine
-backPremiums leg =
+-- A leg with other rounded cash.
+abbrev pub paying : Leg → Cash → Leg
+paying g cash = record { exactly = g .exactly; rounded = cash; halves = g .halves }
+
+-- The premium legs with other cash.
+abbrev pub backPremiums : (Terms → ℕ → Cash) → Engine
+backPremiums cash =
     backRows (λ x w l c m.
-    record { defaults = m .defaults; premiums = rolledBack (x .sheet) (leg (x .sheet)) (w .position) c (l .premiums) })
+    record {
+      defaults = m .defaults;
+      premiums = rolledBack (x .sheet) (λ j. paying (premiumOf (x .sheet) j) (cash (x .sheet) j)) (w .position) c (l .premiums);
+    })
+
+-- Other cash of a premium date, and ours up to a default.
+abbrev backDates : (Terms → ℕ → Cash) → Engine
+backDates cash = backPremiums (λ x j s k m. cash x j s k m + elapsedCash (elapsedOf x) (outstandingOf x j) s k m)
 
 -- Premium paid on the count before the step.
 abbrev pub countBefore : Engine
-countBefore =
-    backPremiums (λ x j.
-    record {
-      exactly = premiumOf x j .exactly;
-      rounded = λ s k m. premiumPayment (accrualOf x s) (outstandingOf x j k);
-      halves = premiumOf x j .halves;
-    })
+countBefore = backDates (λ x j s k m. premiumPayment (accrualOf x s) (outstandingOf x j k))
 
 -- A premium payment rounded down.
 abbrev pub premiumRoundedDown : Engine
-premiumRoundedDown =
-    backPremiums (λ x j.
-    record {
-      exactly = premiumOf x j .exactly;
-      rounded = λ s k m. accrualOf x s * outstandingOf x j (countAfter k m) / B;
-      halves = premiumOf x j .halves;
-    })
+premiumRoundedDown = backDates (λ x j s k m. accrualOf x s * outstandingOf x j (countAfter k m) / B)
 
 -- Index outstanding taken as B - L(k).
 abbrev pub indexByLoss : Engine
-indexByLoss = backPremiums (λ x j. premiumLeg (accrualOf x) (λ k. cond (leb (x .tranches) j) (B - poolLossOf x k) (outstandingOf x j k)))
+indexByLoss =
+    backPremiums (λ x j.
+    premiumLeg (accrualOf x) (elapsedOf x) (λ k. cond (leb (x .tranches) j) (B - poolLossOf x k) (outstandingOf x j k)) .rounded)
 
 -- The position is made up: c below the last step, wherever the walk stands.
 abbrev pub positionMadeUp : Engine
