@@ -12,7 +12,7 @@ use lib.Seq.{getD-append-add}
 use Rattle.commands.specs.declared.Command.{Command}
 use Rattle.commands.specs.declared.Command.the-variants.{Enter, Act, Unknown, CutShort}
 use Rattle.commands.specs.declared.Entry.{Entry}
-use Rattle.commands.specs.declared.Entry.the-variants.{Pool, Attachment, Hazard, Step, Coupon}
+use Rattle.commands.specs.declared.Entry.the-variants.{Pool, Attachment, Hazard, Step, Coupon, Elapsed}
 use Rattle.commands.specs.declared.Order.the-variants.{Issue, Withdraw, Open, Back, Value, Delta, Forward}
 use Rattle.commands.specs.Commands.{lowFirst, operands, commands, decoded, pick, isCommand, commandAt, entrySize, orderSize}
 use Rattle.register.specs.Events as Register
@@ -60,6 +60,7 @@ module _ (a s : List ℕ) where
       ∷ Act (Value (at 1 t) (by 1 1 t))
       ∷ Act (Delta (at 1 t) (by 1 1 t))
       ∷ Act (Forward (at 2 t) (by 1 2 t))
+      ∷ Enter (Elapsed (at 4 t))
       ∷ []
 
   command-behind : commandAt (a ++ s) (length a) ≡ commandAt s 0
