@@ -1,15 +1,17 @@
 -- What opens when a deck is computed, under one name.
 use Rattle.cash.specs.Units.{B, half}
-use Rattle.cash.specs.Losses.{poolLoss, poolRecovery, trancheLoss, trancheRecovery, trancheOutstanding, indexOutstanding, defaultPayment, premiumPayment}
+use Rattle.cash.specs.Losses.{poolLoss, poolRecovery, trancheLoss, trancheRecovery, trancheOutstanding, indexOutstanding, defaultPayment, premiumPayment, elapsedPayment}
 use Rattle.cash.specs.Hedges.{netValue, changeOf, jumpOf, withSign as signedOf, millionths, ratioOf}
 use Rattle.tree.specs.Backward.{rollNode, over}
-use Rattle.tree.specs.Legs.{defaultCash, premiumCash, mark}
+use Rattle.tree.specs.Legs.{defaultCash, premiumCash, elapsedCash, mark}
 use Rattle.sheet.specs.Terms.{sumOf}
+use Rattle.sheet.specs.Dates.{nextAccrual}
 use Rattle.sheet.specs.Periods.{begun, periodOf}
 use Rattle.tree.specs.Sheet.{
   hazardOf,
   discountOf,
   accrualOf,
+  elapsedOf,
   poolLossOf,
   poolRecoveryOf,
   lossOf,
@@ -24,14 +26,14 @@ use Rattle.tree.specs.Sheet.{
 use Rattle.tree.specs.Forward.{same, outflow, fromBelow, pushed, distribution}
 use Rattle.rows.specs.Tables.{tab, entry, grid, any}
 use Rattle.rows.specs.Rows.{nodeIn, rowOf, rolled, rolledBack, anyOver, soiled, distributionRow}
-use Rattle.refusals.specs.Tests.{poolBad, periodsBad, listsBad, recoveryBad, attachmentsBad, startsBad, hazardsBad, discountsBad, accrualsBad, couponsBad, first, sheetTests}
+use Rattle.refusals.specs.Tests.{poolBad, periodsBad, listsBad, recoveryBad, attachmentsBad, startsBad, hazardsBad, discountsBad, accrualsBad, elapsedBad, couponsBad, first, sheetTests}
 use Rattle.figures.specs.Nodes.{nodeOf, jump}
 use Rattle.admission.specs.LentTests.{rowsBad, rowBad, offWalk, tenTests, walkTests}
 use Rattle.walk.specs.Calls.{openTests, backTests, valueTests, ratioTests, forwardTests, orOutcome, orForwardOutcome, zeros, rolls, openCall, backCall, valueCall, ratioCall, forwardCall}
 use Rattle.figures.specs.Replies.{worth}
 use Rattle.lines.specs.Text.{decimal, signed, field}
 use Rattle.commands.specs.Commands.{lowFirst, operands, commands, decoded, commandAt, entrySize, orderSize}
-use Rattle.entries.specs.Draft.{hasRoom, added}
+use Rattle.entries.specs.Draft.{fractions, hasRoom, added}
 use Rattle.machine.specs.Rooms.{openInRooms, backInRooms, valueInRooms, ratioInRooms, forwardInRow, countSaid, distributionInRow}
 use Rattle.machine.specs.Transitions.{transitionOf}
 use Rattle.words.specs.Words.{word}
@@ -49,7 +51,7 @@ printed = tt
 
 -- losses and payments
 unfoldable paymentsComputed : Unit {0}
-unfolding B half poolLoss poolRecovery trancheLoss trancheRecovery trancheOutstanding indexOutstanding defaultPayment premiumPayment
+unfolding B half poolLoss poolRecovery trancheLoss trancheRecovery trancheOutstanding indexOutstanding defaultPayment premiumPayment elapsedPayment
 paymentsComputed = tt
 
 -- net value and hedge ratio
@@ -59,7 +61,7 @@ hedgesComputed = tt
 
 -- one node of a row
 unfoldable legsComputed : Unit {0}
-unfolding rollNode over defaultCash premiumCash mark begun periodOf hazardOf discountOf accrualOf
+unfolding rollNode over defaultCash premiumCash elapsedCash mark begun periodOf hazardOf discountOf accrualOf elapsedOf
 legsComputed = tt
 
 -- a sheet as a tree, and its rules
@@ -74,7 +76,7 @@ rowsComputed = tt
 
 -- the checks of a sheet
 unfoldable checksComputed : Unit {0}
-unfolding poolBad periodsBad listsBad recoveryBad attachmentsBad startsBad hazardsBad discountsBad accrualsBad couponsBad first sheetTests
+unfolding poolBad periodsBad listsBad recoveryBad attachmentsBad startsBad hazardsBad discountsBad accrualsBad nextAccrual elapsedBad couponsBad first sheetTests
 checksComputed = tt
 
 -- the tests of the calls
@@ -94,7 +96,7 @@ commandsComputed = tt
 
 -- entries and orders
 unfoldable machineComputed : Unit {0}
-unfolding hasRoom added openInRooms backInRooms valueInRooms ratioInRooms forwardInRow countSaid distributionInRow transitionOf
+unfolding fractions hasRoom added openInRooms backInRooms valueInRooms ratioInRooms forwardInRow countSaid distributionInRow transitionOf
 machineComputed = tt
 
 -- the engine, and the deck over it

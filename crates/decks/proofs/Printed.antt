@@ -3,7 +3,7 @@ use mathlib.Core.Path.{refl, sym}
 use native.Mathlib.Omega.{arith}
 use Rattle.listings.proofs.Laws as Laws
 use Rattle.decks.specs.Registers.{RegistersLeft}
-use Rattle.decks.specs.Printed.{CallListings, OpenListings, RatioListings, FullListings, LongListings, DeckListings}
+use Rattle.decks.specs.Printed.{CallListings, OpenListings, ElapsedOpenListings, ElapsedListings, RatioListings, FullListings, LongListings, DeckListings}
 use Rattle.decks.proofs.Computing.{computed}
 use Rattle.decks.proofs.Many as Many
 
@@ -42,6 +42,41 @@ opened =
       first-of-all = refl;
     }
 
+opened-earning : ElapsedOpenListings
+unfolding computed
+opened-earning =
+    record {
+      own-date = refl;
+      above-own-date = refl;
+      most = refl;
+      above-most = refl;
+      next-date = refl;
+      above-next-date = refl;
+      first-date = refl;
+      above-first-date = refl;
+      last-date = refl;
+      above-last-date = refl;
+      accrual-none = refl;
+      coupon-above = refl;
+      coupon-alone = refl;
+    }
+
+earning : ElapsedListings
+unfolding computed
+earning =
+    record {
+      earned = refl;
+      scattered = refl;
+      zeros = refl;
+      too-few = refl;
+      too-many = refl;
+      above = refl;
+      uneven = refl;
+      walked-on = refl;
+      cut-short = refl;
+      byte-behind = refl;
+    }
+
 compared : RatioListings
 unfolding computed
 compared =
@@ -69,12 +104,22 @@ long =
     record {
       steps = Many.steps _ (omega arith);
       one-step-more = Many.one-step-more;
+      fractions = Many.fractions _ (omega arith);
+      one-fraction-more = Many.one-fraction-more;
       bytes = λ s h. Many.bytes s (omega arith);
       one-byte-more = λ s h. Many.one-byte-more s (omega arith);
     }
 
 pub printed : DeckListings
-printed = record { called = called; opened = opened; compared = compared; filled = filled; long = long }
+printed = record {
+  called = called;
+  opened = opened;
+  opened-earning = opened-earning;
+  earning = earning;
+  compared = compared;
+  filled = filled;
+  long = long;
+}
 
 pub registers : RegistersLeft
 unfolding computed

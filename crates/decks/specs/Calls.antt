@@ -1,11 +1,11 @@
 -- Decks with calls of every kind, and what they print, byte by byte, by the commands and lines of document 01, 'Deck and printing program'.
 use Prim.Native.Nat.{ℕ}
-use mathlib.Core.List.{List, [], _∷_}
+use mathlib.Core.List.{List, [], _∷_, _++_}
 
 -- ---- The worked deck of document 01
 
-abbrev pub workedDeck : List ℕ
-workedDeck =
+abbrev pub workedSheet : List ℕ
+workedSheet =
     0x01 ∷ 0x02 ∷ 0x02 ∷ 0x00 ∷ 0x01 ∷ 0x00 ∷ 0x84 ∷ 0xD7 ∷ 0x17 ∷ 0x07  -- pool 2 2 1 400000000 7
     ∷ 0x02 ∷ 0x00 ∷ 0x00 ∷ 0x00 ∷ 0x00  -- cut 0
     ∷ 0x02 ∷ 0x00 ∷ 0xA3 ∷ 0xE1 ∷ 0x11  -- cut 300000000
@@ -14,8 +14,11 @@ workedDeck =
     ∷ 0x04 ∷ 0x00 ∷ 0xCA ∷ 0x9A ∷ 0x3B ∷ 0x00 ∷ 0x00 ∷ 0x00 ∷ 0x00  -- step 1000000000 0
     ∷ 0x04 ∷ 0x00 ∷ 0xE9 ∷ 0xA4 ∷ 0x35 ∷ 0x00 ∷ 0xCA ∷ 0x9A ∷ 0x3B  -- step 900000000 1000000000
     ∷ 0x05 ∷ 0x40 ∷ 0x42 ∷ 0x0F ∷ 0x00  -- coupon 1000000
-    ∷ 0x05 ∷ 0x20 ∷ 0xA1 ∷ 0x07 ∷ 0x00  -- coupon 500000
-    ∷ 0x06 ∷ 0x07  -- issue 7
+    ∷ 0x05 ∷ 0x20 ∷ 0xA1 ∷ 0x07 ∷ 0x00 ∷ []  -- coupon 500000
+
+abbrev pub workedCalls : List ℕ
+workedCalls =
+    0x06 ∷ 0x07  -- issue 7
     ∷ 0x08  -- open
     ∷ 0x09 ∷ 0x02 ∷ 0x00  -- back 2
     ∷ 0x0A ∷ 0x00 ∷ 0x00  -- value 0 0
@@ -24,6 +27,9 @@ workedDeck =
     ∷ 0x0C ∷ 0x02 ∷ 0x00 ∷ 0x01  -- forward 2 1
     ∷ 0x07 ∷ 0x07  -- withdraw 7
     ∷ 0x0A ∷ 0x00 ∷ 0x00 ∷ []  -- value 0 0
+
+abbrev pub workedDeck : List ℕ
+workedDeck = workedSheet ++ workedCalls
 
 abbrev pub workedListing : List ℕ
 workedListing =
@@ -42,6 +48,168 @@ workedListing =
     ∷ 102 ∷ 111 ∷ 114 ∷ 119 ∷ 97 ∷ 114 ∷ 100 ∷ 32 ∷ 48 ∷ 32 ∷ 49 ∷ 55 ∷ 48 ∷ 48 ∷ 48 ∷ 48 ∷ 48 ∷ 48 ∷ 48 ∷ 10  -- forward 0 170000000
     ∷ 119 ∷ 105 ∷ 116 ∷ 104 ∷ 100 ∷ 114 ∷ 97 ∷ 119 ∷ 32 ∷ 48 ∷ 10  -- withdraw 0
     ∷ 118 ∷ 97 ∷ 108 ∷ 117 ∷ 101 ∷ 32 ∷ 57 ∷ 10 ∷ []  -- value 9
+
+-- ---- Premium earned up to a default, entered by 0D (T-01): the sheet of the worked deck with fractions for its two steps
+
+abbrev pub workedFractions : List ℕ
+workedFractions =
+    0x0D ∷ 0x00 ∷ 0x65 ∷ 0xCD ∷ 0x1D  -- elapsed 500000000
+    ∷ 0x0D ∷ 0x80 ∷ 0x17 ∷ 0xB4 ∷ 0x2C ∷ []  -- elapsed 750000000
+
+abbrev pub earnedListing : List ℕ
+earnedListing =
+    105 ∷ 115 ∷ 115 ∷ 117 ∷ 101 ∷ 32 ∷ 48 ∷ 10  -- issue 0
+    ∷ 111 ∷ 112 ∷ 101 ∷ 110 ∷ 32 ∷ 48 ∷ 10  -- open 0
+    ∷ 98 ∷ 97 ∷ 99 ∷ 107 ∷ 32 ∷ 48 ∷ 32 ∷ 48 ∷ 10  -- back 0 0
+    ∷ 118 ∷ 97 ∷ 108 ∷ 117 ∷ 101 ∷ 32 ∷ 48  -- value 0
+    ∷ 32 ∷ 53 ∷ 52 ∷ 51 ∷ 48 ∷ 48 ∷ 48 ∷ 48 ∷ 48  -- 54300000
+    ∷ 32 ∷ 50 ∷ 53 ∷ 49 ∷ 57 ∷ 50 ∷ 53 ∷ 48 ∷ 48 ∷ 48  -- 251925000
+    ∷ 32 ∷ 50 ∷ 57 ∷ 49 ∷ 48 ∷ 55 ∷ 53 ∷ 48 ∷ 48 ∷ 48 ∷ 48 ∷ 48 ∷ 48 ∷ 48 ∷ 48 ∷ 48 ∷ 10  -- 291075000000000
+    ∷ 118 ∷ 97 ∷ 108 ∷ 117 ∷ 101 ∷ 32 ∷ 48  -- value 0
+    ∷ 32 ∷ 53 ∷ 57 ∷ 55 ∷ 48 ∷ 48 ∷ 48 ∷ 48 ∷ 48  -- 59700000
+    ∷ 32 ∷ 56 ∷ 54 ∷ 55 ∷ 54 ∷ 50 ∷ 53 ∷ 48 ∷ 48 ∷ 48  -- 867625000
+    ∷ 32 ∷ 49 ∷ 54 ∷ 51 ∷ 49 ∷ 56 ∷ 55 ∷ 53 ∷ 48 ∷ 48 ∷ 48 ∷ 48 ∷ 48 ∷ 48 ∷ 48 ∷ 48 ∷ 10  -- 163187500000000
+    ∷ 100 ∷ 101 ∷ 108 ∷ 116 ∷ 97 ∷ 32 ∷ 48 ∷ 32 ∷ 55 ∷ 51 ∷ 55 ∷ 53 ∷ 54 ∷ 49 ∷ 10  -- delta 0 737561
+    ∷ 102 ∷ 111 ∷ 114 ∷ 119 ∷ 97 ∷ 114 ∷ 100 ∷ 32 ∷ 48 ∷ 32 ∷ 49 ∷ 55 ∷ 48 ∷ 48 ∷ 48 ∷ 48 ∷ 48 ∷ 48 ∷ 48 ∷ 10  -- forward 0 170000000
+    ∷ 119 ∷ 105 ∷ 116 ∷ 104 ∷ 100 ∷ 114 ∷ 97 ∷ 119 ∷ 32 ∷ 48 ∷ 10  -- withdraw 0
+    ∷ 118 ∷ 97 ∷ 108 ∷ 117 ∷ 101 ∷ 32 ∷ 57 ∷ 10 ∷ []  -- value 9
+
+-- The same sheet, with one of them before the pool and one between cuts and hazards.
+abbrev pub scatteredSheet : List ℕ
+scatteredSheet =
+    0x0D ∷ 0x00 ∷ 0x65 ∷ 0xCD ∷ 0x1D  -- elapsed 500000000
+    ∷ 0x01 ∷ 0x02 ∷ 0x02 ∷ 0x00 ∷ 0x01 ∷ 0x00 ∷ 0x84 ∷ 0xD7 ∷ 0x17 ∷ 0x07  -- pool 2 2 1 400000000 7
+    ∷ 0x02 ∷ 0x00 ∷ 0x00 ∷ 0x00 ∷ 0x00  -- cut 0
+    ∷ 0x02 ∷ 0x00 ∷ 0xA3 ∷ 0xE1 ∷ 0x11  -- cut 300000000
+    ∷ 0x0D ∷ 0x80 ∷ 0x17 ∷ 0xB4 ∷ 0x2C  -- elapsed 750000000
+    ∷ 0x03 ∷ 0x00 ∷ 0xE1 ∷ 0xF5 ∷ 0x05  -- hazard 100000000
+    ∷ 0x03 ∷ 0x00 ∷ 0xC2 ∷ 0xEB ∷ 0x0B  -- hazard 200000000
+    ∷ 0x04 ∷ 0x00 ∷ 0xCA ∷ 0x9A ∷ 0x3B ∷ 0x00 ∷ 0x00 ∷ 0x00 ∷ 0x00  -- step 1000000000 0
+    ∷ 0x04 ∷ 0x00 ∷ 0xE9 ∷ 0xA4 ∷ 0x35 ∷ 0x00 ∷ 0xCA ∷ 0x9A ∷ 0x3B  -- step 900000000 1000000000
+    ∷ 0x05 ∷ 0x40 ∷ 0x42 ∷ 0x0F ∷ 0x00  -- coupon 1000000
+    ∷ 0x05 ∷ 0x20 ∷ 0xA1 ∷ 0x07 ∷ 0x00 ∷ []  -- coupon 500000
+
+abbrev pub zeroFractions : List ℕ
+zeroFractions =
+    0x0D ∷ 0x00 ∷ 0x00 ∷ 0x00 ∷ 0x00  -- elapsed 0
+    ∷ 0x0D ∷ 0x00 ∷ 0x00 ∷ 0x00 ∷ 0x00 ∷ []  -- elapsed 0
+
+-- One fraction for two steps, and three: every call but issue and withdraw says 2, also of a withdrawn number.
+abbrev pub oneFraction : List ℕ
+oneFraction =
+    0x0D ∷ 0x00 ∷ 0x65 ∷ 0xCD ∷ 0x1D ∷ []  -- elapsed 500000000
+
+abbrev pub threeFractions : List ℕ
+threeFractions =
+    0x0D ∷ 0x00 ∷ 0x65 ∷ 0xCD ∷ 0x1D  -- elapsed 500000000
+    ∷ 0x0D ∷ 0x80 ∷ 0x17 ∷ 0xB4 ∷ 0x2C  -- elapsed 750000000
+    ∷ 0x0D ∷ 0x00 ∷ 0x65 ∷ 0xCD ∷ 0x1D ∷ []  -- elapsed 500000000
+
+abbrev pub otherCountListing : List ℕ
+otherCountListing =
+    105 ∷ 115 ∷ 115 ∷ 117 ∷ 101 ∷ 32 ∷ 48 ∷ 10  -- issue 0
+    ∷ 111 ∷ 112 ∷ 101 ∷ 110 ∷ 32 ∷ 50 ∷ 10  -- open 2
+    ∷ 98 ∷ 97 ∷ 99 ∷ 107 ∷ 32 ∷ 50 ∷ 10  -- back 2
+    ∷ 118 ∷ 97 ∷ 108 ∷ 117 ∷ 101 ∷ 32 ∷ 50 ∷ 10  -- value 2
+    ∷ 118 ∷ 97 ∷ 108 ∷ 117 ∷ 101 ∷ 32 ∷ 50 ∷ 10  -- value 2
+    ∷ 100 ∷ 101 ∷ 108 ∷ 116 ∷ 97 ∷ 32 ∷ 50 ∷ 10  -- delta 2
+    ∷ 102 ∷ 111 ∷ 114 ∷ 119 ∷ 97 ∷ 114 ∷ 100 ∷ 32 ∷ 50 ∷ 10  -- forward 2
+    ∷ 119 ∷ 105 ∷ 116 ∷ 104 ∷ 100 ∷ 114 ∷ 97 ∷ 119 ∷ 32 ∷ 48 ∷ 10  -- withdraw 0
+    ∷ 118 ∷ 97 ∷ 108 ∷ 117 ∷ 101 ∷ 32 ∷ 50 ∷ 10 ∷ []  -- value 2
+
+-- One that is above the accrual of the next premium date, which is that of the last step: those calls say 21.
+abbrev pub aboveFractions : List ℕ
+aboveFractions =
+    0x0D ∷ 0x01 ∷ 0xCA ∷ 0x9A ∷ 0x3B  -- elapsed 1000000001
+    ∷ 0x0D ∷ 0x00 ∷ 0x00 ∷ 0x00 ∷ 0x00 ∷ []  -- elapsed 0
+
+abbrev pub aboveListing : List ℕ
+aboveListing =
+    105 ∷ 115 ∷ 115 ∷ 117 ∷ 101 ∷ 32 ∷ 48 ∷ 10  -- issue 0
+    ∷ 111 ∷ 112 ∷ 101 ∷ 110 ∷ 32 ∷ 50 ∷ 49 ∷ 10  -- open 21
+    ∷ 98 ∷ 97 ∷ 99 ∷ 107 ∷ 32 ∷ 50 ∷ 49 ∷ 10  -- back 21
+    ∷ 118 ∷ 97 ∷ 108 ∷ 117 ∷ 101 ∷ 32 ∷ 50 ∷ 49 ∷ 10  -- value 21
+    ∷ 118 ∷ 97 ∷ 108 ∷ 117 ∷ 101 ∷ 32 ∷ 50 ∷ 49 ∷ 10  -- value 21
+    ∷ 100 ∷ 101 ∷ 108 ∷ 116 ∷ 97 ∷ 32 ∷ 50 ∷ 49 ∷ 10  -- delta 21
+    ∷ 102 ∷ 111 ∷ 114 ∷ 119 ∷ 97 ∷ 114 ∷ 100 ∷ 32 ∷ 50 ∷ 49 ∷ 10  -- forward 21
+    ∷ 119 ∷ 105 ∷ 116 ∷ 104 ∷ 100 ∷ 114 ∷ 97 ∷ 119 ∷ 32 ∷ 48 ∷ 10  -- withdraw 0
+    ∷ 118 ∷ 97 ∷ 108 ∷ 117 ∷ 101 ∷ 32 ∷ 50 ∷ 49 ∷ 10 ∷ []  -- value 21
+
+-- A step back with none entered, then both fractions, then the other step back, which earns by its own; what the first left stays. In between there
+-- is one fraction for two steps: 2. The next open starts anew, with both.
+abbrev pub walkedOnCalls : List ℕ
+walkedOnCalls =
+    0x06 ∷ 0x07  -- issue 7
+    ∷ 0x08  -- open
+    ∷ 0x09 ∷ 0x01 ∷ 0x00  -- back 1
+    ∷ 0x0A ∷ 0x00 ∷ 0x00  -- value 0 0
+    ∷ 0x0A ∷ 0x01 ∷ 0x00  -- value 1 0
+    ∷ 0x0D ∷ 0x00 ∷ 0x65 ∷ 0xCD ∷ 0x1D  -- elapsed 500000000
+    ∷ 0x09 ∷ 0x01 ∷ 0x00  -- back 1
+    ∷ 0x0A ∷ 0x00 ∷ 0x00  -- value 0 0
+    ∷ 0x0D ∷ 0x80 ∷ 0x17 ∷ 0xB4 ∷ 0x2C  -- elapsed 750000000
+    ∷ 0x0A ∷ 0x00 ∷ 0x00  -- value 0 0
+    ∷ 0x09 ∷ 0x01 ∷ 0x00  -- back 1
+    ∷ 0x0A ∷ 0x00 ∷ 0x00  -- value 0 0
+    ∷ 0x0A ∷ 0x01 ∷ 0x00  -- value 1 0
+    ∷ 0x0B ∷ 0x00 ∷ 0x00  -- delta 0 0
+    ∷ 0x08  -- open
+    ∷ 0x09 ∷ 0x02 ∷ 0x00  -- back 2
+    ∷ 0x0A ∷ 0x00 ∷ 0x00 ∷ []  -- value 0 0
+
+abbrev pub walkedOnListing : List ℕ
+walkedOnListing =
+    105 ∷ 115 ∷ 115 ∷ 117 ∷ 101 ∷ 32 ∷ 48 ∷ 10  -- issue 0
+    ∷ 111 ∷ 112 ∷ 101 ∷ 110 ∷ 32 ∷ 48 ∷ 10  -- open 0
+    ∷ 98 ∷ 97 ∷ 99 ∷ 107 ∷ 32 ∷ 48 ∷ 32 ∷ 49 ∷ 10  -- back 0 1
+    ∷ 118 ∷ 97 ∷ 108 ∷ 117 ∷ 101 ∷ 32 ∷ 48  -- value 0
+    ∷ 32 ∷ 50 ∷ 55 ∷ 48 ∷ 48 ∷ 48 ∷ 48 ∷ 48 ∷ 48  -- 27000000
+    ∷ 32 ∷ 50 ∷ 52 ∷ 51 ∷ 48 ∷ 48 ∷ 48 ∷ 48 ∷ 48 ∷ 48  -- 243000000
+    ∷ 32 ∷ 50 ∷ 55 ∷ 48 ∷ 48 ∷ 48 ∷ 48 ∷ 48 ∷ 48 ∷ 48 ∷ 48 ∷ 48 ∷ 48 ∷ 48 ∷ 48 ∷ 10  -- 27000000000000
+    ∷ 118 ∷ 97 ∷ 108 ∷ 117 ∷ 101 ∷ 32 ∷ 48  -- value 0
+    ∷ 32 ∷ 50 ∷ 55 ∷ 48 ∷ 48 ∷ 48 ∷ 48 ∷ 48 ∷ 48  -- 27000000
+    ∷ 32 ∷ 56 ∷ 53 ∷ 53 ∷ 48 ∷ 48 ∷ 48 ∷ 48 ∷ 48 ∷ 48  -- 855000000
+    ∷ 32 ∷ 45 ∷ 49 ∷ 53 ∷ 55 ∷ 53 ∷ 48 ∷ 48 ∷ 48 ∷ 48 ∷ 48 ∷ 48 ∷ 48 ∷ 48 ∷ 48 ∷ 48 ∷ 48 ∷ 10  -- -157500000000000
+    ∷ 98 ∷ 97 ∷ 99 ∷ 107 ∷ 32 ∷ 50 ∷ 10  -- back 2
+    ∷ 118 ∷ 97 ∷ 108 ∷ 117 ∷ 101 ∷ 32 ∷ 50 ∷ 10  -- value 2
+    ∷ 118 ∷ 97 ∷ 108 ∷ 117 ∷ 101 ∷ 32 ∷ 48  -- value 0
+    ∷ 32 ∷ 50 ∷ 55 ∷ 48 ∷ 48 ∷ 48 ∷ 48 ∷ 48 ∷ 48  -- 27000000
+    ∷ 32 ∷ 50 ∷ 52 ∷ 51 ∷ 48 ∷ 48 ∷ 48 ∷ 48 ∷ 48 ∷ 48  -- 243000000
+    ∷ 32 ∷ 50 ∷ 55 ∷ 48 ∷ 48 ∷ 48 ∷ 48 ∷ 48 ∷ 48 ∷ 48 ∷ 48 ∷ 48 ∷ 48 ∷ 48 ∷ 48 ∷ 10  -- 27000000000000
+    ∷ 98 ∷ 97 ∷ 99 ∷ 107 ∷ 32 ∷ 48 ∷ 32 ∷ 48 ∷ 10  -- back 0 0
+    ∷ 118 ∷ 97 ∷ 108 ∷ 117 ∷ 101 ∷ 32 ∷ 48  -- value 0
+    ∷ 32 ∷ 53 ∷ 52 ∷ 51 ∷ 48 ∷ 48 ∷ 48 ∷ 48 ∷ 48  -- 54300000
+    ∷ 32 ∷ 50 ∷ 51 ∷ 51 ∷ 55 ∷ 48 ∷ 48 ∷ 48 ∷ 48 ∷ 48  -- 233700000
+    ∷ 32 ∷ 51 ∷ 48 ∷ 57 ∷ 51 ∷ 48 ∷ 48 ∷ 48 ∷ 48 ∷ 48 ∷ 48 ∷ 48 ∷ 48 ∷ 48 ∷ 48 ∷ 48 ∷ 10  -- 309300000000000
+    ∷ 118 ∷ 97 ∷ 108 ∷ 117 ∷ 101 ∷ 32 ∷ 48  -- value 0
+    ∷ 32 ∷ 53 ∷ 57 ∷ 55 ∷ 48 ∷ 48 ∷ 48 ∷ 48 ∷ 48  -- 59700000
+    ∷ 32 ∷ 56 ∷ 51 ∷ 48 ∷ 53 ∷ 48 ∷ 48 ∷ 48 ∷ 48 ∷ 48  -- 830500000
+    ∷ 32 ∷ 49 ∷ 56 ∷ 49 ∷ 55 ∷ 53 ∷ 48 ∷ 48 ∷ 48 ∷ 48 ∷ 48 ∷ 48 ∷ 48 ∷ 48 ∷ 48 ∷ 48 ∷ 10  -- 181750000000000
+    ∷ 100 ∷ 101 ∷ 108 ∷ 116 ∷ 97 ∷ 32 ∷ 48 ∷ 32 ∷ 55 ∷ 51 ∷ 48 ∷ 57 ∷ 50 ∷ 48 ∷ 10  -- delta 0 730920
+    ∷ 111 ∷ 112 ∷ 101 ∷ 110 ∷ 32 ∷ 48 ∷ 10  -- open 0
+    ∷ 98 ∷ 97 ∷ 99 ∷ 107 ∷ 32 ∷ 48 ∷ 32 ∷ 48 ∷ 10  -- back 0 0
+    ∷ 118 ∷ 97 ∷ 108 ∷ 117 ∷ 101 ∷ 32 ∷ 48  -- value 0
+    ∷ 32 ∷ 53 ∷ 52 ∷ 51 ∷ 48 ∷ 48 ∷ 48 ∷ 48 ∷ 48  -- 54300000
+    ∷ 32 ∷ 50 ∷ 53 ∷ 49 ∷ 57 ∷ 50 ∷ 53 ∷ 48 ∷ 48 ∷ 48  -- 251925000
+    ∷ 32 ∷ 50 ∷ 57 ∷ 49 ∷ 48 ∷ 55 ∷ 53 ∷ 48 ∷ 48 ∷ 48 ∷ 48 ∷ 48 ∷ 48 ∷ 48 ∷ 48 ∷ 48 ∷ 10 ∷ []  -- 291075000000000
+
+-- 0D has four bytes of operands.
+abbrev pub fractionCutShort : List ℕ
+fractionCutShort =
+    0x0D ∷ 0x00 ∷ 0x65 ∷ 0xCD ∷ []  -- elapsed, cut short
+
+abbrev pub fractionCutShortLine : List ℕ
+fractionCutShortLine =
+    100 ∷ 101 ∷ 99 ∷ 107 ∷ 32 ∷ 49 ∷ 57 ∷ 32 ∷ 53 ∷ 56 ∷ 10 ∷ []  -- deck 19 58
+
+-- 0E is no command.
+abbrev pub byteBehind : List ℕ
+byteBehind =
+    0x0E ∷ []  -- no command
+
+abbrev pub byteBehindLine : List ℕ
+byteBehindLine =
+    100 ∷ 101 ∷ 99 ∷ 107 ∷ 32 ∷ 49 ∷ 56 ∷ 32 ∷ 54 ∷ 56 ∷ 10 ∷ []  -- deck 18 68
 
 -- ---- Three names, two steps and two slices, on which roundings show
 
@@ -109,9 +277,45 @@ acceptedListing =
     ∷ 111 ∷ 112 ∷ 101 ∷ 110 ∷ 32 ∷ 57 ∷ 10  -- open 9
     ∷ 100 ∷ 101 ∷ 99 ∷ 107 ∷ 32 ∷ 49 ∷ 56 ∷ 32 ∷ 49 ∷ 49 ∷ 49 ∷ 10 ∷ []  -- deck 18 111
 
+-- The accepted calls with premium earned up to a default (T-01): the fractions stand behind the sheet.
+abbrev pub unevenFractions : List ℕ
+unevenFractions =
+    0x0D ∷ 0x15 ∷ 0xCD ∷ 0x5B ∷ 0x07  -- elapsed 123456789
+    ∷ 0x0D ∷ 0x78 ∷ 0x0A ∷ 0xE3 ∷ 0x05 ∷ []  -- elapsed 98765432
+
+abbrev pub earnedUnevenListing : List ℕ
+earnedUnevenListing =
+    105 ∷ 115 ∷ 115 ∷ 117 ∷ 101 ∷ 32 ∷ 48 ∷ 10  -- issue 0
+    ∷ 111 ∷ 112 ∷ 101 ∷ 110 ∷ 32 ∷ 48 ∷ 10  -- open 0
+    ∷ 98 ∷ 97 ∷ 99 ∷ 107 ∷ 32 ∷ 48 ∷ 32 ∷ 49 ∷ 10  -- back 0 1
+    ∷ 118 ∷ 97 ∷ 108 ∷ 117 ∷ 101 ∷ 32 ∷ 48  -- value 0
+    ∷ 32 ∷ 49 ∷ 54 ∷ 56 ∷ 55 ∷ 56 ∷ 53 ∷ 50 ∷ 53  -- 16878525
+    ∷ 32 ∷ 51 ∷ 49 ∷ 57 ∷ 56 ∷ 53 ∷ 57 ∷ 48 ∷ 56  -- 31985908
+    ∷ 32 ∷ 49 ∷ 50 ∷ 57 ∷ 50 ∷ 57 ∷ 54 ∷ 53 ∷ 48 ∷ 51 ∷ 53 ∷ 49 ∷ 56 ∷ 49 ∷ 54 ∷ 52 ∷ 10  -- 129296503518164
+    ∷ 118 ∷ 97 ∷ 108 ∷ 117 ∷ 101 ∷ 32 ∷ 48  -- value 0
+    ∷ 32 ∷ 56 ∷ 48 ∷ 51 ∷ 55 ∷ 51 ∷ 57 ∷ 50  -- 8037392
+    ∷ 32 ∷ 51 ∷ 53 ∷ 56 ∷ 50 ∷ 48 ∷ 49 ∷ 55 ∷ 49  -- 35820171
+    ∷ 32 ∷ 45 ∷ 50 ∷ 55 ∷ 55 ∷ 56 ∷ 50 ∷ 55 ∷ 55 ∷ 53 ∷ 52 ∷ 49 ∷ 55 ∷ 57 ∷ 56 ∷ 50 ∷ 57 ∷ 10  -- -277827754179829
+    ∷ 100 ∷ 101 ∷ 108 ∷ 116 ∷ 97 ∷ 32 ∷ 48 ∷ 32 ∷ 52 ∷ 56 ∷ 52 ∷ 55 ∷ 48 ∷ 54 ∷ 10  -- delta 0 484706
+    ∷ 98 ∷ 97 ∷ 99 ∷ 107 ∷ 32 ∷ 48 ∷ 32 ∷ 48 ∷ 10  -- back 0 0
+    ∷ 118 ∷ 97 ∷ 108 ∷ 117 ∷ 101 ∷ 32 ∷ 48  -- value 0
+    ∷ 32 ∷ 49 ∷ 55 ∷ 52 ∷ 49 ∷ 52 ∷ 53 ∷ 51 ∷ 53  -- 17414535
+    ∷ 32 ∷ 54 ∷ 57 ∷ 49 ∷ 55 ∷ 48 ∷ 49 ∷ 52 ∷ 51  -- 69170143
+    ∷ 32 ∷ 45 ∷ 53 ∷ 49 ∷ 55 ∷ 53 ∷ 53 ∷ 54 ∷ 48 ∷ 49 ∷ 48 ∷ 56 ∷ 50 ∷ 57 ∷ 56 ∷ 53 ∷ 55 ∷ 10  -- -517556010829857
+    ∷ 118 ∷ 97 ∷ 108 ∷ 117 ∷ 101 ∷ 32 ∷ 48  -- value 0
+    ∷ 32 ∷ 53 ∷ 53 ∷ 48 ∷ 56 ∷ 52 ∷ 51 ∷ 51 ∷ 52  -- 55084334
+    ∷ 32 ∷ 52 ∷ 54 ∷ 56 ∷ 57 ∷ 52 ∷ 49 ∷ 57 ∷ 48 ∷ 56  -- 468941908
+    ∷ 32 ∷ 45 ∷ 54 ∷ 50 ∷ 49 ∷ 53 ∷ 49 ∷ 49 ∷ 56 ∷ 57 ∷ 56 ∷ 57 ∷ 52 ∷ 49 ∷ 57 ∷ 48 ∷ 56 ∷ 10  -- -621511898941908
+    ∷ 100 ∷ 101 ∷ 108 ∷ 116 ∷ 97 ∷ 32 ∷ 48 ∷ 32 ∷ 51 ∷ 56 ∷ 54 ∷ 54 ∷ 57 ∷ 51 ∷ 10  -- delta 0 386693
+    ∷ 102 ∷ 111 ∷ 114 ∷ 119 ∷ 97 ∷ 114 ∷ 100 ∷ 32 ∷ 48 ∷ 32 ∷ 49 ∷ 50 ∷ 51 ∷ 52 ∷ 53 ∷ 54 ∷ 55 ∷ 56 ∷ 57 ∷ 10  -- forward 0 123456789
+    ∷ 102 ∷ 111 ∷ 114 ∷ 119 ∷ 97 ∷ 114 ∷ 100 ∷ 32 ∷ 48 ∷ 32 ∷ 50 ∷ 56 ∷ 57 ∷ 53 ∷ 56 ∷ 57 ∷ 57 ∷ 57 ∷ 10  -- forward 0 28958999
+    ∷ 119 ∷ 105 ∷ 116 ∷ 104 ∷ 100 ∷ 114 ∷ 97 ∷ 119 ∷ 32 ∷ 48 ∷ 10  -- withdraw 0
+    ∷ 111 ∷ 112 ∷ 101 ∷ 110 ∷ 32 ∷ 57 ∷ 10  -- open 9
+    ∷ 100 ∷ 101 ∷ 99 ∷ 107 ∷ 32 ∷ 49 ∷ 56 ∷ 32 ∷ 49 ∷ 50 ∷ 49 ∷ 10 ∷ []  -- deck 18 121
+
 -- Refused calls: unissued, live, no walk, out of steps, off tree, withdrawn. Those accepted between them stand on the other side of an edge.
 -- Last a command without its last operand. (12 is met by no deck: each call is lent the rows that the calls before it wrote, and an entry behind
--- an open makes a list too long.)
+-- an open makes a list too long, but for elapsed fractions where none was entered, which no ceiling goes by.)
 abbrev pub refusedCalls : List ℕ
 refusedCalls =
     0x07 ∷ 0xC8  -- withdraw 200

@@ -11,6 +11,9 @@ none = 0x00 ∷ 0x00 ∷ 0x00 ∷ 0x00 ∷ []  -- 0
 abbrev pub one : List ℕ
 one = 0x01 ∷ 0x00 ∷ 0x00 ∷ 0x00 ∷ []  -- 1
 
+abbrev pub two : List ℕ
+two = 0x02 ∷ 0x00 ∷ 0x00 ∷ 0x00 ∷ []  -- 2
+
 abbrev pub belowMillion : List ℕ
 belowMillion = 0x3F ∷ 0x42 ∷ 0x0F ∷ 0x00 ∷ []  -- 999999
 
@@ -57,6 +60,28 @@ abbrev pub opens : ℕ → List ℕ
 opens digit =
     105 ∷ 115 ∷ 115 ∷ 117 ∷ 101 ∷ 32 ∷ 48 ∷ 10  -- issue 0
     ∷ 111 ∷ 112 ∷ 101 ∷ 110 ∷ 32 ∷ (48 + digit) ∷ 10 ∷ []  -- open and the digit
+
+-- ---- The limit of an elapsed fraction (T-01)
+
+abbrev pub elapsed : List ℕ → List ℕ
+elapsed x = 0x0D ∷ x
+
+-- One step: its accrual and its fraction, and the coupons of slice and index.
+abbrev pub earning : List ℕ → List ℕ → List ℕ → List ℕ → List ℕ
+earning accrual e x y = single none one none one accrual ++ (coupon x ++ (coupon y ++ (elapsed e ++ issueOpen)))
+
+-- Two steps: their accruals and their fractions.
+-- pool 1, 2, 1, 0, 255; cut 0; cut 1; hazard 0; step 1, accrual; step 1, accrual; coupon 0; coupon 0; elapsed; elapsed
+abbrev pub earningTwice : List ℕ → List ℕ → List ℕ → List ℕ → List ℕ
+earningTwice a b e f =
+    (0x01 ∷ 0x01 ∷ 0x02 ∷ 0x00 ∷ 0x01 ∷ none)
+    ++ ((0xFF ∷ 0x02 ∷ none) ++ ((0x02 ∷ one) ++ ((0x03 ∷ none) ++ ((0x04 ∷ one) ++ (a ++ ((0x04 ∷ one) ++ (b ++ (coupon none ++ (coupon none
+    ++ (elapsed e ++ (elapsed f ++ issueOpen)))))))))))
+
+abbrev pub opensElapsed : List ℕ
+opensElapsed =
+    105 ∷ 115 ∷ 115 ∷ 117 ∷ 101 ∷ 32 ∷ 48 ∷ 10  -- issue 0
+    ∷ 111 ∷ 112 ∷ 101 ∷ 110 ∷ 32 ∷ 50 ∷ 49 ∷ 10 ∷ []  -- open 21
 
 -- ---- Ratios: a hazard of B less 1 leaves a default leg of the whole loss, and a premium leg of 1 unit more than after the default
 
@@ -249,6 +274,14 @@ issueLine =
 abbrev pub tooManySteps : List ℕ
 tooManySteps =
     100 ∷ 101 ∷ 99 ∷ 107 ∷ 32 ∷ 50 ∷ 48 ∷ 32 ∷ 51 ∷ 50 ∷ 56 ∷ 53 ∷ 48 ∷ 10 ∷ []  -- deck 20 32850
+
+abbrev pub fraction : List ℕ
+fraction =
+    0x0D ∷ 0x01 ∷ 0x00 ∷ 0x00 ∷ 0x00 ∷ []  -- elapsed 1
+
+abbrev pub tooManyFractions : List ℕ
+tooManyFractions =
+    100 ∷ 101 ∷ 99 ∷ 107 ∷ 32 ∷ 50 ∷ 48 ∷ 32 ∷ 49 ∷ 56 ∷ 50 ∷ 53 ∷ 48 ∷ 10 ∷ []  -- deck 20 18250
 
 abbrev pub unknownFirst : List ℕ
 unknownFirst =

@@ -6,13 +6,18 @@ use lib.ListN.{length}
 use Rattle.listings.specs.Listing.{listing}
 use Rattle.decks.specs.Calls.{workedDeck, workedListing, unevenSheet, acceptedCalls, acceptedListing, refusedCalls, refusedListing}
 use Rattle.decks.specs.Calls.{noPoolDeck, noPoolListing, mixedDeck, mixedListing, oneStepDeck, oneStepListing, toppedDeck, toppedListing}
-use Rattle.decks.specs.Limits.{none, one, belowMillion, million, tenMillion, overTenMillion, billion, overBillion, single, coupon}
-use Rattle.decks.specs.Limits.{issueOpen, opening, opens, ratios, largestRatio, offScale, flatHedge, eightSlices, secondPool}
+use Rattle.decks.specs.Calls.{workedSheet, workedCalls, workedFractions, earnedListing, scatteredSheet, zeroFractions, oneFraction}
+use Rattle.decks.specs.Calls.{threeFractions, otherCountListing, aboveFractions, aboveListing, walkedOnCalls, walkedOnListing}
+use Rattle.decks.specs.Calls.{fractionCutShort, fractionCutShortLine, byteBehind, byteBehindLine, unevenFractions, earnedUnevenListing}
+use Rattle.decks.specs.Limits.{none, one, two, belowMillion, million, tenMillion, overTenMillion, billion, overBillion, single, coupon}
+use Rattle.decks.specs.Limits.{issueOpen, opening, opens, earning, earningTwice, opensElapsed, ratios, largestRatio}
+use Rattle.decks.specs.Limits.{offScale, flatHedge, eightSlices, secondPool}
 use Rattle.decks.specs.Limits.{poolCutShort, secondPoolCutShort, nineCuts, tenthCut, tooManyCuts, hazardAndStep, nineCoupons}
 use Rattle.decks.specs.Limits.{tenthCoupon, tooManyCoupons, sliceCalls, sliceListing, times, manyNames, hazard, nameCalls}
-use Rattle.decks.specs.Limits.{nameListing, tooManyHazards, step, issueSeven, issueLine, tooManySteps, unknownFirst, oversized}
+use Rattle.decks.specs.Limits.{nameListing, tooManyHazards, step, issueSeven, issueLine, tooManySteps, fraction, tooManyFractions}
+use Rattle.decks.specs.Limits.{unknownFirst, oversized}
 
--- Every command and every kind of line, accepted and refused.
+-- Every command but 0D, and every kind of line, accepted and refused.
 pub record CallListings : Type 0 where
   pub worked : listing workedDeck ≡ workedListing
   pub accepted : listing (unevenSheet ++ acceptedCalls) ≡ acceptedListing
@@ -41,6 +46,37 @@ pub record OpenListings : Type 0 where
   pub index-coupon-above : listing (opening none one none one one none overTenMillion) ≡ opens 8
   pub first-of-all : listing (opening overBillion overBillion overBillion none none overTenMillion overTenMillion) ≡ opens 3
 
+-- Refusal 21 by open, after 7 and before 8: a fraction is at most the accrual of its own step where that is a premium date, and else that of the
+-- next one. With the accrual at fault too it is 7; with a coupon, still 21. (T-01)
+pub record ElapsedOpenListings : Type 0 where
+  pub own-date : listing (earning one one none none) ≡ opens 0
+  pub above-own-date : listing (earning one two none none) ≡ opensElapsed
+  pub most : listing (earning billion billion tenMillion tenMillion) ≡ opens 0
+  pub above-most : listing (earning billion overBillion tenMillion tenMillion) ≡ opensElapsed
+  pub next-date : listing (earningTwice none one one one) ≡ opens 0
+  pub above-next-date : listing (earningTwice none one two none) ≡ opensElapsed
+  pub first-date : listing (earningTwice one billion one billion) ≡ opens 0
+  pub above-first-date : listing (earningTwice one billion two none) ≡ opensElapsed
+  pub last-date : listing (earningTwice billion one billion one) ≡ opens 0
+  pub above-last-date : listing (earningTwice billion one none two) ≡ opensElapsed
+  pub accrual-none : listing (earning none one none none) ≡ opens 7
+  pub coupon-above : listing (earning one two overTenMillion none) ≡ opensElapsed
+  pub coupon-alone : listing (earning one one overTenMillion none) ≡ opens 8
+
+-- Elapsed fractions: as many as steps, wherever they stand; zeros for none; 2 for another count, and 21 for one above, by every call; entered
+-- behind a step back; and command 0D cut short, with 0E behind it. (T-01)
+pub record ElapsedListings : Type 0 where
+  pub earned : listing (workedSheet ++ (workedFractions ++ workedCalls)) ≡ earnedListing
+  pub scattered : listing (scatteredSheet ++ workedCalls) ≡ earnedListing
+  pub zeros : listing (workedSheet ++ (zeroFractions ++ workedCalls)) ≡ workedListing
+  pub too-few : listing (workedSheet ++ (oneFraction ++ workedCalls)) ≡ otherCountListing
+  pub too-many : listing (workedSheet ++ (threeFractions ++ workedCalls)) ≡ otherCountListing
+  pub above : listing (workedSheet ++ (aboveFractions ++ workedCalls)) ≡ aboveListing
+  pub uneven : listing (unevenSheet ++ (unevenFractions ++ acceptedCalls)) ≡ earnedUnevenListing
+  pub walked-on : listing (workedSheet ++ walkedOnCalls) ≡ walkedOnListing
+  pub cut-short : listing (workedSheet ++ fractionCutShort) ≡ fractionCutShortLine
+  pub byte-behind : listing (workedSheet ++ (workedFractions ++ byteBehind)) ≡ byteBehindLine
+
 -- Refusals 15 and 16.
 pub record RatioListings : Type 0 where
   pub largest : listing (ratios belowMillion one) ≡ largestRatio
@@ -57,17 +93,22 @@ pub record FullListings : Type 0 where
   pub hazards : listing (manyNames ++ (times 125 hazard ++ nameCalls)) ≡ nameListing
   pub one-hazard-more : listing (manyNames ++ (times 125 hazard ++ hazard)) ≡ tooManyHazards
 
--- Refusal 20: step 3,651 and byte 65,537.
+-- Refusal 20: step 3,651, fraction 3,651 and byte 65,537.
 pub record LongListings : Type 0 where
   pub steps : listing (times 3_650 step ++ issueSeven) ≡ issueLine
   pub one-step-more : listing (times 3_650 step ++ step) ≡ tooManySteps
+  pub fractions : listing (times 3_650 fraction ++ issueSeven) ≡ issueLine
+  pub one-fraction-more : listing (times 3_650 fraction ++ fraction) ≡ tooManyFractions
   pub bytes : (s : List ℕ) → length s ≤ 65_535 → listing (0x00 ∷ s) ≡ unknownFirst
   pub one-byte-more : (s : List ℕ) → 65_536 ≤ length s → listing (0x00 ∷ s) ≡ oversized
 
--- All of them. But in `mixed` the commands of a sheet stand in the order pool, cuts, hazards, steps, coupons, and before every call.
+-- All of them. But in `mixed`, `scattered` and `walked-on` the commands of a sheet stand in the order pool, cuts, hazards, steps, coupons, elapsed
+-- fractions, and before every call.
 pub record DeckListings : Type 0 where
   pub called : CallListings
   pub opened : OpenListings
+  pub opened-earning : ElapsedOpenListings
+  pub earning : ElapsedListings
   pub compared : RatioListings
   pub filled : FullListings
   pub long : LongListings
