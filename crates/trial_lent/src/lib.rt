@@ -1,6 +1,5 @@
 // What a trial lends, made from its numbers.
 pub mod lengths; // lengths.rt: the lengths of what it lends
 pub mod lists; // lists.rt: the numbers of a sheet's lists
-pub mod registers; // registers.rt: registers
 pub mod rows; // rows.rt: rows
 pub mod spans; // spans.rt: a sheet's figures, and where its lists stand

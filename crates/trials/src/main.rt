@@ -6,8 +6,8 @@ use trial::at::walked;
 use trial::at::with;
 use trial::print;
 use trial::words;
-use trial_calls::entries;
 use trial_calls::sheets;
+use trial_registers::entries;
 
 // Units in the whole pool.
 const B: u64 = 1_000_000_000;
