@@ -3,18 +3,18 @@ use crate::calls;
 use sheet::Sheet;
 use trial::at;
 use trial::at::Trial;
+use trial::registers;
 use trial_lent::lengths;
 use trial_lent::lists;
 use trial_lent::rows::default_row;
 use trial_lent::rows::part_mut;
 use trial_lent::rows::premium_row;
 use trial_lent::spans;
-use trial_registers::lent;
 
 // The register and the rows.
 fn rows(trial: Trial, sheet: Sheet, numbers: &[u64]) {
-    let full = lent::register(trial[at::BYTE]);
-    let bytes = lent::bytes(&full, at::size(trial, at::REGISTER_LENT));
+    let full = registers::register(trial[at::BYTE]);
+    let bytes = registers::bytes(&full, at::size(trial, at::REGISTER_LENT));
     let mut defaults = default_row(trial);
     let mut premiums = premium_row(trial);
     let mut counts = [7; 130];

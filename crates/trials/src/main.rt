@@ -7,7 +7,6 @@ use trial::at::with;
 use trial::print;
 use trial::words;
 use trial_calls::sheets;
-use trial_registers::entries;
 
 // Units in the whole pool.
 const B: u64 = 1_000_000_000;
@@ -250,6 +249,6 @@ fn main() {
     operands();
     scales();
     halves();
-    entries::all();
-    entries::cut_writes();
+    trial_entries::all();
+    trial_entries::cut_writes();
 }

@@ -1,5 +1,5 @@
 // The registers that a trial lends.
-use trial::print;
+use crate::print;
 
 // A register of withdrawn numbers but for the sheet's.
 pub fn register(seventh: u64) -> [u8; 257] {

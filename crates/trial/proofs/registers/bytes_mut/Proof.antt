@@ -1,10 +1,10 @@
--- `trial_registers::lent::bytes_mut` is safe: what is asked for is shorter than the list.
+-- `trial::registers::bytes_mut` is safe: what is asked for is shorter than the list.
 use mathlib.Core.Path.{sym}
 use native.Mathlib.Omega.{arith}
 use lib.Seq.{length-take-le}
 use borrow.Author.Needs.{needs}
-use Rattle.trial_registers.proofs.lent.bytes_mut.Statement.{statement}
-use Rattle.trial_registers.proofs.lent.bytes_mut.Tie as tie
+use Rattle.trial.proofs.registers.bytes_mut.Statement.{statement}
+use Rattle.trial.proofs.registers.bytes_mut.Tie as tie
 
 returns : tie.Need-returns
 returns c = search needs
