@@ -6,7 +6,6 @@ use trial::at::walked;
 use trial::at::with;
 use trial::print;
 use trial::words;
-use trial_calls::entries;
 use trial_calls::sheets;
 
 // Units in the whole pool.
@@ -120,6 +119,25 @@ fn premiums() {
     edge(10_000_000, 10_000_001, index, at::THIRD_COUPON);
 }
 
+// Elapsed fractions: 2, values, 21, and 7 and 8 beside it. Step 2 is no premium date: the next one is step 3.
+fn elapsed() {
+    let earned = with(walked(), at::HAS_ELAPSED, 1);
+    let index = with(earned, at::TRANCHE, 2);
+    let one_name = with(with(index, at::NAMES, 1), at::HAZARD, B);
+    let third = with(one_name, at::BACK, 1);
+    let second = with(one_name, at::BACK, 2);
+    let dear = with(earned, at::COUPON, 10_000_001);
+    edge(2, 4, earned, at::ELAPSED_LENT);
+    edge(0, 3, earned, at::TRANCHE);
+    edge(1, 4, one_name, at::BACK);
+    edge(250_000_000, 250_000_001, one_name, at::ELAPSED);
+    edge(B, OVER, second, at::SECOND_ELAPSED);
+    edge(B, OVER, third, at::THIRD_ELAPSED);
+    edge(599_999_999, 600_000_000, index, at::THIRD_ACCRUAL);
+    edge(0, 1, earned, at::THIRD_ACCRUAL);
+    edge(250_000_000, 250_000_001, dear, at::ELAPSED);
+}
+
 // 9 and 10.
 fn bytes() {
     plain(0x00, 0x00, at::BYTE);
@@ -127,19 +145,11 @@ fn bytes() {
     plain(0xFE, 0xFF, at::BYTE);
 }
 
-// The end, where no premium is to come, and one step back from it.
-fn end() -> Trial {
-    let own = with(with(made_up(), at::OWN_PREMIUM, 0), at::OWN_NEXT_PREMIUM, 0);
-    let index = with(with(own, at::INDEX_PREMIUM, 0), at::INDEX_NEXT_PREMIUM, 0);
-    let all = with(with(index, at::LAST_PREMIUM, 0), at::OTHER_PREMIUMS, 0);
-    with(all, at::BACK, 1)
-}
-
-// 11.
+// 11, and 12 beside it: at the last step nearly no premium is left, so these rows are over their ceilings there.
 fn walks() {
     made(0, 1, at::OPEN);
     made(6, 8, at::NUMBER);
-    edge(3, 4, end(), at::POSITION);
+    made(2, 4, at::POSITION);
 }
 
 // 12 for D: the width less what is lost.
@@ -155,19 +165,24 @@ fn default_ceilings() {
     edge(0, 1, last, at::LAST_DEFAULT);
 }
 
-// 12 for A: the accruals to come.
+// 12 for A: the accruals to come, a unit for each name that is left, and two for each step.
 fn premium_ceilings() {
     let next = with(made_up(), at::COUNT, 1);
     let root = with(made_up(), at::POSITION, 0);
     let index = with(made_up(), at::TRANCHE, 2);
     let index_next = with(index, at::COUNT, 1);
     let last = with(index, at::COUNT, 3);
-    made(B, OVER, at::OWN_PREMIUM);
-    edge(1_250_000_000, 1_250_000_001, root, at::OWN_PREMIUM);
-    edge(B, OVER, next, at::OWN_NEXT_PREMIUM);
-    edge(B, OVER, index, at::INDEX_PREMIUM);
-    edge(B, OVER, index_next, at::INDEX_NEXT_PREMIUM);
-    edge(B, OVER, last, at::LAST_PREMIUM);
+    made(1_000_000_005, 1_000_000_006, at::OWN_PREMIUM);
+    edge(1_250_000_009, 1_250_000_010, root, at::OWN_PREMIUM);
+    edge(1_000_000_004, 1_000_000_005, next, at::OWN_NEXT_PREMIUM);
+    edge(1_000_000_005, 1_000_000_006, index, at::INDEX_PREMIUM);
+    edge(
+        1_000_000_004,
+        1_000_000_005,
+        index_next,
+        at::INDEX_NEXT_PREMIUM,
+    );
+    edge(1_000_000_002, 1_000_000_003, last, at::LAST_PREMIUM);
 }
 
 // 13 and 14.
@@ -226,6 +241,7 @@ fn main() {
     periods();
     figures();
     premiums();
+    elapsed();
     bytes();
     walks();
     default_ceilings();
@@ -233,6 +249,6 @@ fn main() {
     operands();
     scales();
     halves();
-    entries::all();
-    entries::cut_writes();
+    trial_entries::all();
+    trial_entries::cut_writes();
 }

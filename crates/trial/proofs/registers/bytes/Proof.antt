@@ -1,10 +1,10 @@
--- `trial::lent::bytes` is safe: what is asked for is shorter than the list.
+-- `trial::registers::bytes` is safe: what is asked for is shorter than the list.
 use mathlib.Core.Path.{sym}
 use native.Mathlib.Omega.{arith}
 use lib.Seq.{length-take-le}
 use borrow.Author.Needs.{needs}
-use Rattle.trial.proofs.lent.bytes.Statement.{statement}
-use Rattle.trial.proofs.lent.bytes.Tie as tie
+use Rattle.trial.proofs.registers.bytes.Statement.{statement}
+use Rattle.trial.proofs.registers.bytes.Tie as tie
 
 returns : tie.Need-returns
 returns c = search needs

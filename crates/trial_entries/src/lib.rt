@@ -1,15 +1,15 @@
 // Issue and withdraw with the byte that each leaves, and what a cut write may leave.
 use trial::at;
-use trial::lent;
 use trial::print;
+use trial::registers;
 use trial::words;
 
 // Issue over one byte and withdraw over another, in registers of a length.
 fn both(place: usize, value: u64, length: usize, unissued: u64, live: u64) {
-    let mut first = lent::register(unissued);
-    let mut second = lent::register(live);
-    let issued = issuing::issue(lent::bytes_mut(&mut first, length), 7);
-    let withdrawn = issuing::withdraw(lent::bytes_mut(&mut second, length), 7);
+    let mut first = registers::register(unissued);
+    let mut second = registers::register(live);
+    let issued = issuing::issue(registers::bytes_mut(&mut first, length), 7);
+    let withdrawn = issuing::withdraw(registers::bytes_mut(&mut second, length), 7);
     words::of(place);
     print::count(value);
     print::answer(b" issue", register::number_of(issued));

@@ -3,8 +3,8 @@ use Prim.Native.Nat.{_-_}
 use mathlib.Core.Path.{_≡_, refl}
 use borrow.Author.Needs.{needs}
 use lib.ListN.{length}
-use Rattle.trial.proofs.lent.fill.Statement.{statement}
-use Rattle.trial.proofs.lent.fill.Tie as tie
+use Rattle.trial_lent.proofs.lists.fill.Statement.{statement}
+use Rattle.trial_lent.proofs.lists.fill.Tie as tie
 
 abbrev Inv-loop : tie.InvT-loop
 Inv-loop numbers₀ from to first apart number₀ i₀ numbers number i = length numbers ≡ length numbers₀

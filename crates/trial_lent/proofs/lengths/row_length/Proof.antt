@@ -1,10 +1,10 @@
--- `trial::lent::row_length` is safe: 10 times 127 fits.
+-- `trial_lent::lengths::row_length` is safe: 10 times 127 fits.
 use Prim.Native.Nat.{_*_, _+_, _≤_}
 use native.Mathlib.Nat.{mul-le-mul}
 use native.Mathlib.Omega.{arith}
 use borrow.Author.Needs.{needs}
-use Rattle.trial.proofs.lent.row_length.Statement.{statement}
-use Rattle.trial.proofs.lent.row_length.Tie as tie
+use Rattle.trial_lent.proofs.lengths.row_length.Statement.{statement}
+use Rattle.trial_lent.proofs.lengths.row_length.Tie as tie
 
 size-requires : tie.Need-size-requires
 size-requires c κs = search needs

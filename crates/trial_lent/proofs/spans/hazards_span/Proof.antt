@@ -1,10 +1,10 @@
--- `trial::lent::hazards_span` is safe: 126 times 17 fits.
+-- `trial_lent::spans::hazards_span` is safe: 126 times 17 fits.
 use Prim.Native.Nat.{_*_, _≤_}
 use native.Mathlib.Nat.{mul-le-mul}
 use native.Mathlib.Omega.{arith}
 use borrow.Author.Needs.{needs}
-use Rattle.trial.proofs.lent.hazards_span.Statement.{statement}
-use Rattle.trial.proofs.lent.hazards_span.Tie as tie
+use Rattle.trial_lent.proofs.spans.hazards_span.Statement.{statement}
+use Rattle.trial_lent.proofs.spans.hazards_span.Tie as tie
 
 size-requires : tie.Need-size-requires
 size-requires c κs = search needs
