@@ -13,7 +13,7 @@ use Rattle.tree.specs.Forward.{same, outflow, fromBelow, pushed, distrib
 use Rattle.tree.specs.Trials.{Starred, Exactly, Roundings, Recoveries, Bounds, PeriodsCrossed, ElapsedPaid}
 
 pub starred : Starred
-unfolding B half poolLoss poolRecovery trancheLoss trancheRecovery trancheOutstanding indexOutstanding defaultPayment premiumPayment elapsedPayment rollNode backFrom back legValue defaultCash premiumCash elapsedCash begun periodOf hazardOf discountOf accrualOf elapsedOf poolLossOf poolRecoveryOf lossOf outstandingOf treeOf defaultOf premiumOf D A same outflow fromBelow pushed distribution
+unfolding B half poolLoss poolRecovery trancheLoss trancheRecovery trancheOutstanding indexOutstanding defaultPayment premiumPayment elapsedPayment rollNode backFrom back legValue defaultCash premiumCash elapsedCash premiumExact elapsedExact begun periodOf hazardOf discountOf accrualOf elapsedOf poolLossOf poolRecoveryOf lossOf outstandingOf treeOf defaultOf premiumOf D A same outflow fromBelow pushed distribution
 starred =
     record {
       first-at-6 = refl;
@@ -51,7 +51,7 @@ exactly =
     }
 
 pub roundings : Roundings
-unfolding B half poolLoss poolRecovery trancheLoss trancheRecovery trancheOutstanding indexOutstanding defaultPayment premiumPayment elapsedPayment rollNode backFrom back legValue defaultCash premiumCash elapsedCash begun periodOf hazardOf discountOf accrualOf elapsedOf poolLossOf poolRecoveryOf lossOf outstandingOf treeOf defaultOf premiumOf D A same outflow fromBelow pushed distribution
+unfolding B half poolLoss poolRecovery trancheLoss trancheRecovery trancheOutstanding indexOutstanding defaultPayment premiumPayment elapsedPayment rollNode backFrom back legValue defaultCash premiumCash elapsedCash premiumExact elapsedExact begun periodOf hazardOf discountOf accrualOf elapsedOf poolLossOf poolRecoveryOf lossOf outstandingOf treeOf defaultOf premiumOf D A same outflow fromBelow pushed distribution
 roundings =
     record {
       loss-at-1 = refl;
@@ -69,7 +69,7 @@ roundings =
     }
 
 pub recoveries : Recoveries
-unfolding B half poolLoss poolRecovery trancheLoss trancheRecovery trancheOutstanding indexOutstanding defaultPayment premiumPayment elapsedPayment rollNode backFrom back legValue defaultCash premiumCash elapsedCash begun periodOf hazardOf discountOf accrualOf elapsedOf poolLossOf poolRecoveryOf lossOf outstandingOf treeOf defaultOf premiumOf D A same outflow fromBelow pushed distribution
+unfolding B half poolLoss poolRecovery trancheLoss trancheRecovery trancheOutstanding indexOutstanding defaultPayment premiumPayment elapsedPayment rollNode backFrom back legValue defaultCash premiumCash elapsedCash premiumExact elapsedExact begun periodOf hazardOf discountOf accrualOf elapsedOf poolLossOf poolRecoveryOf lossOf outstandingOf treeOf defaultOf premiumOf D A same outflow fromBelow pushed distribution
 recoveries =
     record {
       first-at-1 = refl;
@@ -104,7 +104,7 @@ bounds =
     }
 
 pub periods : PeriodsCrossed
-unfolding B half poolLoss poolRecovery trancheLoss trancheRecovery trancheOutstanding indexOutstanding defaultPayment premiumPayment elapsedPayment rollNode backFrom back legValue defaultCash premiumCash elapsedCash begun periodOf hazardOf discountOf accrualOf elapsedOf poolLossOf poolRecoveryOf lossOf outstandingOf treeOf defaultOf premiumOf D A same outflow fromBelow pushed distribution allMoves keeps those paths weight paid total pathSum exact legExact exactD lands probability
+unfolding B half poolLoss poolRecovery trancheLoss trancheRecovery trancheOutstanding indexOutstanding defaultPayment premiumPayment elapsedPayment rollNode backFrom back legValue defaultCash premiumCash elapsedCash premiumExact elapsedExact begun periodOf hazardOf discountOf accrualOf elapsedOf poolLossOf poolRecoveryOf lossOf outstandingOf treeOf defaultOf premiumOf D A same outflow fromBelow pushed distribution allMoves keeps those paths weight paid total pathSum exact legExact exactD lands probability
 periods =
     record {
       before-start = refl;
