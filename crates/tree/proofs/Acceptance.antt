@@ -4,13 +4,14 @@ use lib.Dec.{lit≤}
 use Rattle.cash.specs.Units.{B, half}
 use Rattle.cash.specs.Sums.{sumTo}
 use Rattle.cash.specs.Losses.{poolLoss, poolRecovery, trancheLoss, trancheRecovery, trancheOutstanding, indexOutstanding, defaultPayment, premiumPayment, elapsedPayment}
+use Rattle.sheet.specs.Terms.{sumOf}
 use Rattle.sheet.specs.Periods.{begun, periodOf}
 use Rattle.tree.specs.Paths.{allMoves, keeps, those, paths, weight, paid, total, pathSum, exact}
 use Rattle.tree.specs.Backward.{rollNode, backFrom, back, over, legValue, legExact}
 use Rattle.tree.specs.Legs.{defaultCash, premiumCash, premiumExact, elapsedCash, elapsedExact, mark}
-use Rattle.tree.specs.Sheet.{hazardOf, discountOf, accrualOf, elapsedOf, poolLossOf, poolRecoveryOf, lossOf, outstandingOf, treeOf, defaultOf, premiumOf, D, A, exactD, exactA, dates, elapsedCount, premiumHalves, spanning}
+use Rattle.tree.specs.Sheet.{hazardOf, discountOf, accrualOf, elapsedOf, poolLossOf, poolRecoveryOf, lossOf, outstandingOf, treeOf, defaultOf, premiumOf, D, A, exactD, exactA, dates, elapsedCount, premiumHalves, premiumMost, spanning}
 use Rattle.tree.specs.Forward.{same, outflow, fromBelow, pushed, distribution, lands, probability, apart, errors}
-use Rattle.tree.specs.Trials.{Starred, Exactly, Roundings, Recoveries, Bounds, PeriodsCrossed, ElapsedPaid}
+use Rattle.tree.specs.Trials.{Starred, Exactly, Roundings, Recoveries, Bounds, PeriodsCrossed, ElapsedPaid, CeilingLeft}
 
 pub starred : Starred
 unfolding B half poolLoss poolRecovery trancheLoss trancheRecovery trancheOutstanding indexOutstanding defaultPayment premiumPayment elapsedPayment rollNode backFrom back legValue defaultCash premiumCash elapsedCash premiumExact elapsedExact begun periodOf hazardOf discountOf accrualOf elapsedOf poolLossOf poolRecoveryOf lossOf outstandingOf treeOf defaultOf premiumOf D A same outflow fromBelow pushed distribution
@@ -135,3 +136,7 @@ elapsed-paid =
       exact-worked = refl;
       rounded-apart = refl;
     }
+
+pub ceiling-left : CeilingLeft
+unfolding B half poolLoss poolRecovery trancheLoss trancheRecovery trancheOutstanding indexOutstanding premiumPayment elapsedPayment rollNode backFrom premiumCash elapsedCash begun periodOf hazardOf discountOf accrualOf elapsedOf poolLossOf poolRecoveryOf outstandingOf treeOf premiumOf sumOf premiumMost
+ceiling-left = record { first = refl; second = refl; walked = refl; left = refl }

@@ -5,7 +5,8 @@ use mathlib.Core.List.{[], _∷_}
 use Rattle.cash.specs.Units.{B, half}
 use Rattle.cash.specs.Near.{Near}
 use Rattle.sheet.specs.Terms.{Terms}
-use Rattle.tree.specs.Sheet.{hazardOf, treeOf, poolLossOf, outstandingOf, D, A, exactD, exactA, premiumHalves}
+use Rattle.tree.specs.Sheet.{hazardOf, treeOf, poolLossOf, outstandingOf, premiumOf, D, A, exactD, exactA, premiumHalves, premiumMost}
+use Rattle.tree.specs.Backward.{backFrom}
 use Rattle.tree.specs.Forward.{distribution, probability}
 use Rattle.tree.specs.Statements.{DefaultsAdd, PremiumsAdd, IndexPremiumsAdd, ErrorsWithin}
 
@@ -184,6 +185,22 @@ fourHalves =
       elapsed = 499_999_997 ∷ [];
     }
 
+-- A name that defaults for sure and pays a year's premium as it does.
+abbrev pub sureDefault : Terms
+sureDefault =
+    record {
+      names = 1;
+      steps = 2;
+      tranches = 1;
+      recovery = 0;
+      attachments = 0 ∷ 1_000_000_000 ∷ [];
+      starts = 1 ∷ [];
+      hazards = 1_000_000_000 ∷ [];
+      discounts = 1_000_000_000 ∷ 1_000_000_000 ∷ [];
+      accruals = 0 ∷ 1_000_000_000 ∷ [];
+      elapsed = 1_000_000_000 ∷ 1_000_000_000 ∷ [];
+    }
+
 -- The starred entries. The deck's figures stand at its root; tranche 1 of it is the index.
 pub record Starred : Type 0 where
   pub first-at-6 : outstandingOf wide 0 6 ≡ 1_200_000
@@ -294,3 +311,11 @@ pub record ElapsedPaid : Type 0 where
   pub worked-index : A workedEarning 1 2 0 0 ≡ 867_625_000
   pub exact-worked : exactA workedEarning 0 2 0 0 ≡ 251_925_000 * B ^ 5
   pub rounded-apart : A fourHalves 1 1 0 0 ≡ 749_999_999
+
+-- The ceiling of the premium leg holds on every walk, but a step back from other rows may leave it: here from B + 2 at every count of step 1, where
+-- the ceilings are B + 3 and B + 2, to 2 × B + 2, over B + 5.
+pub record CeilingLeft : Type 0 where
+  pub first : premiumMost sureDefault 1 0 ≡ 1_000_000_003
+  pub second : premiumMost sureDefault 1 1 ≡ 1_000_000_002
+  pub walked : backFrom (treeOf sureDefault) (premiumOf sureDefault 1 .rounded) (λ k. 1_000_000_002) 1 0 0 ≡ 2_000_000_002
+  pub left : premiumMost sureDefault 0 0 ≡ 1_000_000_005
