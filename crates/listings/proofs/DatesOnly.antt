@@ -5,8 +5,10 @@ use mathlib.Core.Bool.{Bool, true, false, not, _&&_, _||_, true≢false, false�
 use mathlib.Core.List.{List, [], _∷_, _++_}
 use native.Mathlib.Nat.{add-zero, le-of-eq}
 use native.Mathlib.Omega.{arith}
+use native.Mathlib.Decide.{decLe}
+use borrow.Author.Tests.{le-leb, lt-leb, eqb-false}
 use lib.Arith.{digits-lt}
-use lib.Dec.{ltb}
+use lib.Dec.{leb, ltb, eqb}
 use lib.ListN.{length, getD, replicate, take, drop, take-append-drop, length-append, List·getD-append}
 use lib.Seq.{getD-take}
 use Rattle.commands.specs.declared.Command.{Command}
@@ -15,7 +17,7 @@ use Rattle.commands.specs.declared.Entry.{Entry}
 use Rattle.commands.specs.declared.Entry.the-variants.{Pool, Attachment, Hazard, Step, Coupon, Elapsed}
 use Rattle.commands.specs.declared.Order.{Order}
 use Rattle.commands.specs.declared.Order.the-variants.{Issue, Withdraw, Open, Back, Value, Delta, Forward}
-use Rattle.commands.specs.Commands.{commandAt, entrySize, orderSize}
+use Rattle.commands.specs.Commands.{operands, commands, decoded, pick, isCommand, commandAt}
 use Rattle.sheet.specs.Terms.{Terms, sumOf}
 use Rattle.sheet.specs.Brought.{Brought}
 use Rattle.sheet.specs.Limits.{TermsWithin, Limits}
@@ -51,7 +53,7 @@ use Rattle.machine.specs.Rooms.{lentRows, leftInRooms, openInRooms, backInRooms
 use Rattle.machine.specs.Transitions.{transitionOf}
 use Rattle.listings.specs.Effects.{goOn, withDraft, effectOf}
 use Rattle.listings.specs.Manners.{mannerTransition}
-use Rattle.listings.specs.DatesOnly.{MeetsZeros, ZerosFrom, isElapsed, commandSize, entersNone, DecksByDates}
+use Rattle.listings.specs.DatesOnly.{HasZeros, OrderMeets, MeetsZeros, ZerosFrom, earlierCommandAt, commandSize, entersNone, DecksByDates}
 use Rattle.listings.proofs.Manners.{ordered, Along, listed, registered, entered-kept, goes-on}
 use Rattle.listings.proofs.OnePeriod.{One, one-after, one-entered}
 
@@ -241,16 +243,23 @@ module _ (g : Draft) (register : List ℕ) (w : Walk) (rooms : Rows) (k : Kept g
 
 -- ---- a command leaves it
 
--- an order that meets zeros
-kept-after : (o : Order) (m : Machine) → KeptIn m → (n : ℕ) → m .draft .brought .sheet .elapsed ≡ replicate n 0 → KeptIn (transitionOf o m .next)
+-- an order that meets zeros, as many as they are
+abbrev ZerosMet : Terms → Type 0
+ZerosMet x = x .elapsed ≡ replicate (min (x .steps) 3650) 0
+
+zeros-are : (x : Terms) → HasZeros x → ZerosMet x
+unfolding fractions
+zeros-are x z = z
+
+kept-after : (o : Order) (m : Machine) → KeptIn m → OrderMeets o m → KeptIn (transitionOf o m .next)
 unfolding transitionOf openInRooms backInRooms valueInRooms ratioInRooms valueCall ratioCall
-kept-after (Issue y) m k n z = k
-kept-after (Withdraw y) m k n z = k
-kept-after Open m k n z = opened (m .draft) (m .register) (m .walk) (m .rooms) k
-kept-after (Back c) m k n z = moved-back (m .draft) (m .register) (m .walk) (m .rooms) k n c z
-kept-after (Value j c) m k n z = handed (m .draft) (m .register) (m .walk) (m .rooms) k _ _
-kept-after (Delta j c) m k n z = handed (m .draft) (m .register) (m .walk) (m .rooms) k _ _
-kept-after (Forward i c) m k n z = k
+kept-after (Issue y) m k z = k
+kept-after (Withdraw y) m k z = k
+kept-after Open m k z = opened (m .draft) (m .register) (m .walk) (m .rooms) k
+kept-after (Back c) m k z = moved-back (m .draft) (m .register) (m .walk) (m .rooms) k (min (m .draft .brought .sheet .steps) 3650) c (zeros-are (m .draft .brought .sheet) z)
+kept-after (Value j c) m k z = handed (m .draft) (m .register) (m .walk) (m .rooms) k _ _
+kept-after (Delta j c) m k z = handed (m .draft) (m .register) (m .walk) (m .rooms) k _ _
+kept-after (Forward i c) m k z = k
 
 -- an entry behind a list that was long enough is one too many
 module _ (g h : Draft) (w : Walk) (rooms : Rows) (k : Kept g w rooms) (one : h .brought .sheet .starts ≡ 1 ∷ [])
@@ -299,80 +308,159 @@ kept-entered (Elapsed e) m k room =
 
 -- ---- the run
 
-zeros-are : (x : Terms) → x .elapsed ≡ fractions [] (x .steps) → x .elapsed ≡ replicate (min (x .steps) 3650) 0
-unfolding fractions
-zeros-are x z = z
-
--- a sheet that is not refused by 1 has so many steps
+-- a sheet that is not refused by 1 has as many steps as zeros
 all-steps : (x : Terms) → poolBad x ≡ false → min (x .steps) 3650 ≡ x .steps
 all-steps x e = omega (arith, pool-fine x .0 e .steps)
 
-meets : (c : Command) (m : Machine) (o : Order) → c ≡ Act o → MeetsZeros c m → m .draft .brought .sheet .elapsed ≡ fractions [] (m .draft .brought .sheet .steps)
-meets c m o e z = subst (λ (c : Command). MeetsZeros c m) e z
+met : (c : Command) (m : Machine) (o : Order) → c ≡ Act o → MeetsZeros c m → OrderMeets o m
+met c m o e z = subst (λ (c : Command). MeetsZeros c m) e z
+
+-- each order does what it did
+same-by : (o : Order) (m : Machine) → KeptIn m → HasZeros (m .draft .brought .sheet) → transitionOf o m ≡ mannerTransition datesOnlyManner o m
+same-by o m k z =
+    let x = m .draft .brought in
+    ordered datesOnlyManner o m (λ register walk rows. CeilingsAsked x register walk rows → SoiledAlike (x .sheet) (walk .position) rows)
+    (calls-by-zeros x (min (x .sheet .steps) 3650) (zeros-are (x .sheet) z) (all-steps (x .sheet)) _ (λ register walk rows l. l))
+    (kept-alike m k)
+
+same-order : (o : Order) (m : Machine) → KeptIn m → OrderMeets o m → transitionOf o m ≡ mannerTransition datesOnlyManner o m
+unfolding transitionOf mannerTransition
+same-order (Issue y) m k z = refl
+same-order (Withdraw y) m k z = refl
+same-order Open m k z = same-by Open m k z
+same-order (Back c) m k z = same-by (Back c) m k z
+same-order (Value j c) m k z = same-by (Value j c) m k z
+same-order (Delta j c) m k z = same-by (Delta j c) m k z
+same-order (Forward i c) m k z = same-by (Forward i c) m k z
+
+two : (a c : Bool) → (not a && c) ≡ true → (a ≡ false) × (c ≡ true)
+two true c e = absurd (false≢true e)
+two false c e = (refl, e)
+
+-- ---- bytes other than 0D
+
+-- 01 to 0C are commands as they were
+in-range : (code : ℕ) → eqb code 13 ≡ false → isCommand code ≡ (leb 1 code && leb code 12)
+in-range code e = ap (λ (t : Bool). leb 1 code && t) (go (decLe code 12))
+  where
+    go : Dec (code ≤ 12) → leb code 13 ≡ leb code 12
+    go (yes h) = rw (le-leb code 12 h) (le-leb code 13 (omega arith))
+    go (no h) =
+        let other : code ≡ 13 → ⊥ = eqb-false code 13 e in
+        rw (lt-leb code 12 (omega arith)) (lt-leb code 13 (omega (arith, other)))
+
+isFraction : Command → Bool
+isFraction (Enter y) = entersFraction y
+isFraction (Act o) = false
+isFraction Unknown = false
+isFraction CutShort = false
+
+-- none of a list but its last
+plain : List Command → Bool
+plain [] = true
+plain (c ∷ []) = true
+plain (c ∷ d ∷ l) = not (isFraction c) && plain (d ∷ l)
+
+plain-at : (l : List Command) (i : ℕ) → plain l ≡ true → (suc i ≡ length l → ⊥) → isFraction (getD l i Unknown) ≡ false
+unfolding plain isFraction
+plain-at [] i h e = refl
+plain-at (c ∷ []) zero h e = absurd (e refl)
+plain-at (c ∷ []) (suc i) h e = refl
+plain-at (c ∷ d ∷ l) zero h e = two (isFraction c) (plain (d ∷ l)) h .0
+plain-at (c ∷ d ∷ l) (suc i) h e = plain-at (d ∷ l) i (two (isFraction c) (plain (d ∷ l)) h .1) (λ q. e (ap suc q))
+
+decoded-plain : (code : ℕ) (s : List ℕ) (b : ℕ) → (code ≡ 13 → ⊥) → isFraction (decoded code s b) ≡ false
+unfolding decoded commands plain isFraction
+decoded-plain code s b e = plain-at (commands s b) code refl (λ q. e (omega arith))
+
+picked : (t : Bool) (a c : Command) → isFraction a ≡ false → isFraction c ≡ false → isFraction (pick t a c) ≡ false
+picked true a c e f = e
+picked false a c e f = f
+
+not-fraction : (deck : List ℕ) (at : ℕ) → (getD deck at 0 ≡ 13 → ⊥) → isFraction (commandAt deck at) ≡ false
+unfolding commandAt isFraction
+not-fraction deck at e =
+    picked (isCommand (getD deck at 0)) _ Unknown
+    (picked (leb (operands (getD deck at 0)) (length deck - (at + 1))) _ CutShort (decoded-plain (getD deck at 0) deck (at + 1) e) refl)
+    refl
 
 module _ (deck : List ℕ) where
   -- what is kept, and that every order to come meets zeros
   abbrev Goes : ℕ → ℕ → Machine → Type 0
   Goes commands at m = KeptIn m × ZerosFrom commands deck at m
 
-  same-order : (commands at : ℕ) (m : Machine) (o : Order) → ltb at (length deck) ≡ true → commandAt deck at ≡ Act o → Goes (suc commands) at m →
-      transitionOf o m ≡ mannerTransition datesOnlyManner o m
-  unfolding ZerosFrom
-  same-order commands at m o b e g =
-      let x = m .draft .brought in
-      ordered datesOnlyManner o m (λ register walk rows. CeilingsAsked x register walk rows → SoiledAlike (x .sheet) (walk .position) rows)
-      (calls-by-zeros x (min (x .sheet .steps) 3650) (zeros-are (x .sheet) (meets _ m o e (g .1 b .0))) (all-steps (x .sheet)) _ (λ register walk rows l. l))
-      (kept-alike m (g .0))
-
   goes : (commands at : ℕ) (m : Machine) (text : List ℕ) (next : ℕ) (t : Machine) → ltb at (length deck) ≡ true →
       effectOf (commandAt deck at) at m ≡ goOn text next t → Goes (suc commands) at m → Goes commands next t
   unfolding ZerosFrom
   goes commands at m text next t b q g = (
     goes-on (λ next t. KeptIn t) at m (commandAt deck at) text next t q
-        (λ o e. kept-after o m (g .0) (min (m .draft .brought .sheet .steps) 3650) (zeros-are (m .draft .brought .sheet) (meets _ m o e (g .1 b .0))))
+        (λ o e. kept-after o m (g .0) (met _ m o e (g .1 b .0)))
         (λ y e r. kept-entered y m (g .0) r),
     g .1 b .1 text next t q,
   )
 
-  along : Along datesOnlyManner deck Goes
-  along = record { same = same-order; on = goes }
+  along : Along commandAt datesOnlyManner deck Goes
+  unfolding ZerosFrom
+  along = record {
+    reads = λ commands at m b g. refl;
+    same = λ commands at m o b e g. same-order o m (g .0) (met _ m o e (g .1 b .0));
+    on = goes;
+  }
 
-  -- a deck that enters none
-  none-met : (c : Command) (m : Machine) → NoFractions (m .draft) → MeetsZeros c m
-  none-met (Act o) m f = f .zeros
-  none-met (Enter e) m f = tt
-  none-met Unknown m f = tt
-  none-met CutShort m f = tt
+  -- ---- without 0D
 
   -- what is read of it at a command
   module _ (commands at : ℕ) (h : entersNone (suc commands) deck at ≡ true) (b : ltb at (length deck) ≡ true) where
-    both : (a c : Bool) → (not a && c) ≡ true → (a ≡ false) × (c ≡ true)
-    both true c e = absurd (false≢true e)
-    both false c e = (refl, e)
-
-    rest : (c : Command) → commandAt deck at ≡ c → (isElapsed c ≡ false) × (entersNone commands deck (at + commandSize c) ≡ true)
+    clear : (eqb (getD deck at 0) 13 ≡ false) × (entersNone commands deck (at + commandSize (commandAt deck at)) ≡ true)
     unfolding entersNone
-    rest c e = both (isElapsed c) (entersNone commands deck (at + commandSize c)) (subst (λ (c : Command). Clear c ≡ true) e here)
-      where
-        Clear : Command → Bool
-        Clear c = not (isElapsed c) && entersNone commands deck (at + commandSize c)
+    clear =
+        two (eqb (getD deck at 0) 13) (entersNone commands deck (at + commandSize (commandAt deck at)))
+        (subst (λ (t : Bool). elim t [ true ↦ not (eqb (getD deck at 0) 13) && entersNone commands deck (at + commandSize (commandAt deck at)) | false ↦ true ] ≡ true) b h)
 
-        here : Clear (commandAt deck at) ≡ true
-        here = subst (λ (t : Bool). elim t [ true ↦ Clear (commandAt deck at) | false ↦ true ] ≡ true) b h
+    behind : (c : Command) → commandAt deck at ≡ c → entersNone commands deck (at + commandSize c) ≡ true
+    behind c e = subst (λ (c : Command). entersNone commands deck (at + commandSize c) ≡ true) e (clear .1)
 
-  none-from : (commands at : ℕ) (m : Machine) → NoFractions (m .draft) → entersNone commands deck at ≡ true → ZerosFrom commands deck at m
-  unfolding ZerosFrom
-  none-from zero at m f h = tt
-  none-from (suc commands) at m f h =
-      λ b. (
-        none-met (commandAt deck at) m f,
-        λ text next t q.
-            goes-on (λ next t. ZerosFrom commands deck next t) at m (commandAt deck at) text next t q
-            (λ o e. none-from commands (at + orderSize o) (transitionOf o m .next) (subst NoFractions (sym (entered-kept o m)) f) (rest commands at h b (Act o) e .1))
-            (λ y e r.
-            none-from commands (at + entrySize y) (withDraft m (added y (m .draft))) (dates-only .kept y (m .draft) (rest commands at h b (Enter y) e .0) f)
-            (rest commands at h b (Enter y) e .1)),
-      )
+  -- a byte other than 0D is read as it was, and enters no fraction
+  read-alike : (at : ℕ) → eqb (getD deck at 0) 13 ≡ false → commandAt deck at ≡ earlierCommandAt deck at
+  unfolding commandAt earlierCommandAt
+  read-alike at e =
+      ap (λ (t : Bool). pick t (pick (leb (operands (getD deck at 0)) (length deck - (at + 1))) (decoded (getD deck at 0) deck (at + 1)) CutShort) Unknown)
+      (in-range (getD deck at 0) e)
+
+  no-fraction : (at : ℕ) (y : Entry) → eqb (getD deck at 0) 13 ≡ false → commandAt deck at ≡ Enter y → entersFraction y ≡ false
+  unfolding isFraction
+  no-fraction at y e q = sym (ap isFraction q) ∙ not-fraction deck at (eqb-false (getD deck at 0) 13 e)
+
+  -- no fraction was entered, and none will be
+  abbrev Blank : ℕ → ℕ → Machine → Type 0
+  Blank commands at m = KeptIn m × NoFractions (m .draft) × (entersNone commands deck at ≡ true)
+
+  meets : (o : Order) (m : Machine) → NoFractions (m .draft) → OrderMeets o m
+  meets (Issue y) m f = tt
+  meets (Withdraw y) m f = tt
+  meets Open m f = f .zeros
+  meets (Back c) m f = f .zeros
+  meets (Value j c) m f = f .zeros
+  meets (Delta j c) m f = f .zeros
+  meets (Forward i c) m f = f .zeros
+
+  along-without : Along earlierCommandAt datesOnlyManner deck Blank
+  along-without = record {
+    reads = λ commands at m b g. read-alike at (clear commands at (g .2) b .0);
+    same = λ commands at m o b e g. same-order o m (g .0) (meets o m (g .1));
+    on = λ commands at m text next t b q g.
+        goes-on (λ next t. Blank commands next t) at m (commandAt deck at) text next t q
+        (λ o e. (
+          kept-after o m (g .0) (meets o m (g .1)),
+          subst NoFractions (sym (entered-kept o m)) (g .1),
+          behind commands at (g .2) b (Act o) e,
+        ))
+        (λ y e r. (
+          kept-entered y m (g .0) r,
+          dates-only .kept y (m .draft) (no-fraction at y (clear commands at (g .2) b .0) e) (g .1),
+          behind commands at (g .2) b (Enter y) e,
+        ));
+  }
 
 first-kept : (register : List ℕ) → KeptIn (machineOn register)
 first-kept register = record { one = one-period .first; nameless = λ e. refl; walked = λ going. absurd (false≢true going) }
@@ -380,7 +468,8 @@ first-kept register = record { one = one-period .first; nameless = λ e. refl; w
 pub decks-by-dates : DecksByDates
 decks-by-dates =
     record {
-      listing = λ register deck z. listed datesOnlyManner deck _ (along deck) register (first-kept register, z);
-      register-left = λ register deck z. registered datesOnlyManner deck _ (along deck) register (first-kept register, z);
-      none = λ register deck e. none-from deck (length deck) 0 (machineOn register) (dates-only .first) e;
+      listing = λ register deck z. listed commandAt datesOnlyManner deck _ (along deck) register (first-kept register, z);
+      register-left = λ register deck z. registered commandAt datesOnlyManner deck _ (along deck) register (first-kept register, z);
+      listing-without = λ register deck e. listed earlierCommandAt datesOnlyManner deck _ (along-without deck) register (first-kept register, dates-only .first, e);
+      register-without = λ register deck e. registered earlierCommandAt datesOnlyManner deck _ (along-without deck) register (first-kept register, dates-only .first, e);
     }

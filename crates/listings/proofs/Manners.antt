@@ -25,7 +25,7 @@ use Rattle.listings.specs.Effects.{Effect, stop, goOn, withDraft, entryE
 use Rattle.listings.specs.ListingFrom.{listingFrom}
 use Rattle.listings.specs.RegisterFrom.{registerFrom}
 use Rattle.listings.specs.Listing.{listingOn, registerAfter}
-use Rattle.listings.specs.Manners.{mannerTransition, mannerEffect, mannerListingFrom, mannerListing, mannerRegisterFrom, mannerRegister}
+use Rattle.listings.specs.Manners.{mannerTransition, mannerEffect, mannerListingFrom, mannerListing, mannerRegisterFrom, mannerRegister, Reading}
 
 -- an order of calls that are alike
 pub ordered : (n : Manner) (o : Order) (m : Machine) (Lent : List ℕ → Walk → Rows → Type 0) → CallsAlike n (m .draft .brought) Lent →
@@ -51,15 +51,16 @@ ordered n (Forward i k) m Lent a l =
     let p = leftInRow x (m .row) o in forwardTransition m (saidBeside (countSaid (p .answer) (p .row) (x .sheet .names) k) (p .row)))
     (a .forward (m .register) (take (x .sheet .names + 1) (m .row)) i)
 
--- What is kept along a run, from an offset on with so many commands at most: each order does what it does in the manner, and it is kept by each
+-- What is kept along a run, from an offset on with so many commands at most: the same command is read, each order does what it does in the manner, and it is kept by each
 -- command that goes on.
-pub record Along (n : Manner) (deck : List ℕ) (Kept : ℕ → ℕ → Machine → Type 0) : Type 1 where
+pub record Along (read : Reading) (n : Manner) (deck : List ℕ) (Kept : ℕ → ℕ → Machine → Type 0) : Type 1 where
+  pub reads : (commands at : ℕ) (m : Machine) → ltb at (length deck) ≡ true → Kept (suc commands) at m → commandAt deck at ≡ read deck at
   pub same : (commands at : ℕ) (m : Machine) (o : Order) → ltb at (length deck) ≡ true → commandAt deck at ≡ Act o → Kept (suc commands) at m →
       transitionOf o m ≡ mannerTransition n o m
   pub on : (commands at : ℕ) (m : Machine) (text : List ℕ) (next : ℕ) (t : Machine) → ltb at (length deck) ≡ true →
       effectOf (commandAt deck at) at m ≡ goOn text next t → Kept (suc commands) at m → Kept commands next t
 
-module _ (n : Manner) (deck : List ℕ) (Kept : ℕ → ℕ → Machine → Type 0) (along : Along n deck Kept) where
+module _ (read : Reading) (n : Manner) (deck : List ℕ) (Kept : ℕ → ℕ → Machine → Type 0) (along : Along read n deck Kept) where
   -- a command has the same effect
   effect-of : (commands at : ℕ) (m : Machine) → ltb at (length deck) ≡ true → Kept (suc commands) at m → (c : Command) → commandAt deck at ≡ c →
       effectOf c at m ≡ mannerEffect n c at m
@@ -81,67 +82,67 @@ module _ (n : Manner) (deck : List ℕ) (Kept : ℕ → ℕ → Machine → Type
     goes : (b : ltb at (length deck) ≡ true) (text : List ℕ) (next : ℕ) (t : Machine) → effectOf (commandAt deck at) at m ≡ goOn text next t → Kept commands next t
     goes b text next t q = along .on commands at m text next t b q k
 
-    printed-is : (rest : (next : ℕ) (t : Machine) → Kept commands next t → listingFrom commands deck next t ≡ mannerListingFrom n commands deck next t) →
+    printed-is : (rest : (next : ℕ) (t : Machine) → Kept commands next t → listingFrom commands deck next t ≡ mannerListingFrom read n commands deck next t) →
         ltb at (length deck) ≡ true → (e : Effect) → effectOf (commandAt deck at) at m ≡ e →
-        printed (listingFrom commands deck) e ≡ printed (mannerListingFrom n commands deck) e
+        printed (listingFrom commands deck) e ≡ printed (mannerListingFrom read n commands deck) e
     unfolding printed
     printed-is rest b (stop text) q = refl
     printed-is rest b (goOn text next t) q = ap (λ (l : List ℕ). text ++ l) (rest next t (goes b text next t q))
 
-    kept-is : (rest : (next : ℕ) (t : Machine) → Kept commands next t → registerFrom commands deck next t ≡ mannerRegisterFrom n commands deck next t) →
+    kept-is : (rest : (next : ℕ) (t : Machine) → Kept commands next t → registerFrom commands deck next t ≡ mannerRegisterFrom read n commands deck next t) →
         ltb at (length deck) ≡ true → (e : Effect) → effectOf (commandAt deck at) at m ≡ e →
-        kept (m .register) (registerFrom commands deck) e ≡ kept (m .register) (mannerRegisterFrom n commands deck) e
+        kept (m .register) (registerFrom commands deck) e ≡ kept (m .register) (mannerRegisterFrom read n commands deck) e
     unfolding kept
     kept-is rest b (stop text) q = refl
     kept-is rest b (goOn text next t) q = rest next t (goes b text next t q)
 
-  pub listing-is : (commands at : ℕ) (m : Machine) → Kept commands at m → listingFrom commands deck at m ≡ mannerListingFrom n commands deck at m
+  pub listing-is : (commands at : ℕ) (m : Machine) → Kept commands at m → listingFrom commands deck at m ≡ mannerListingFrom read n commands deck at m
   unfolding listingFrom mannerListingFrom printed
   listing-is zero at m k = refl
   listing-is (suc commands) at m k = go (λ next t r. listing-is commands next t r) (ltb at (length deck)) refl
     where
-      go : ((next : ℕ) (t : Machine) → Kept commands next t → listingFrom commands deck next t ≡ mannerListingFrom n commands deck next t) →
+      go : ((next : ℕ) (t : Machine) → Kept commands next t → listingFrom commands deck next t ≡ mannerListingFrom read n commands deck next t) →
           (b : Bool) → ltb at (length deck) ≡ b →
           _≡_ {A = List ℕ} (elim b [ true ↦ printed (listingFrom commands deck) (effectOf (commandAt deck at) at m) | false ↦ [] ])
-          (elim b [ true ↦ printed (mannerListingFrom n commands deck) (mannerEffect n (commandAt deck at) at m) | false ↦ [] ])
+          (elim b [ true ↦ printed (mannerListingFrom read n commands deck) (mannerEffect n (read deck at) at m) | false ↦ [] ])
       go rest true b =
           printed-is commands at m k rest b (effectOf (commandAt deck at) at m) refl
-          ∙ ap (printed (mannerListingFrom n commands deck)) (effect-of commands at m b k (commandAt deck at) refl)
+          ∙ ap (printed (mannerListingFrom read n commands deck)) (effect-of commands at m b k (commandAt deck at) refl ∙ ap (λ (c : Command). mannerEffect n c at m) (along .reads commands at m b k))
       go rest false b = refl
 
-  pub register-is : (commands at : ℕ) (m : Machine) → Kept commands at m → registerFrom commands deck at m ≡ mannerRegisterFrom n commands deck at m
+  pub register-is : (commands at : ℕ) (m : Machine) → Kept commands at m → registerFrom commands deck at m ≡ mannerRegisterFrom read n commands deck at m
   unfolding registerFrom mannerRegisterFrom kept
   register-is zero at m k = refl
   register-is (suc commands) at m k = go (λ next t r. register-is commands next t r) (ltb at (length deck)) refl
     where
-      go : ((next : ℕ) (t : Machine) → Kept commands next t → registerFrom commands deck next t ≡ mannerRegisterFrom n commands deck next t) →
+      go : ((next : ℕ) (t : Machine) → Kept commands next t → registerFrom commands deck next t ≡ mannerRegisterFrom read n commands deck next t) →
           (b : Bool) → ltb at (length deck) ≡ b →
           _≡_ {A = List ℕ} (elim b [ true ↦ kept (m .register) (registerFrom commands deck) (effectOf (commandAt deck at) at m) | false ↦ m .register ])
-          (elim b [ true ↦ kept (m .register) (mannerRegisterFrom n commands deck) (mannerEffect n (commandAt deck at) at m) | false ↦ m .register ])
+          (elim b [ true ↦ kept (m .register) (mannerRegisterFrom read n commands deck) (mannerEffect n (read deck at) at m) | false ↦ m .register ])
       go rest true b =
           kept-is commands at m k rest b (effectOf (commandAt deck at) at m) refl
-          ∙ ap (kept (m .register) (mannerRegisterFrom n commands deck)) (effect-of commands at m b k (commandAt deck at) refl)
+          ∙ ap (kept (m .register) (mannerRegisterFrom read n commands deck)) (effect-of commands at m b k (commandAt deck at) refl ∙ ap (λ (c : Command). mannerEffect n c at m) (along .reads commands at m b k))
       go rest false b = refl
 
   -- the whole deck
   module _ (register : List ℕ) (first : Kept (length deck) 0 (machineOn register)) where
-    pub listed : listingOn register deck ≡ mannerListing n register deck
+    pub listed : listingOn register deck ≡ mannerListing read n register deck
     unfolding listingOn mannerListing
     listed = go (ltb 65536 (length deck))
       where
         go : (b : Bool) →
             _≡_ {A = List ℕ} (elim b [ true ↦ deckLine 20 65536 | false ↦ listingFrom (length deck) deck 0 (machineOn register) ])
-            (elim b [ true ↦ deckLine 20 65536 | false ↦ mannerListingFrom n (length deck) deck 0 (machineOn register) ])
+            (elim b [ true ↦ deckLine 20 65536 | false ↦ mannerListingFrom read n (length deck) deck 0 (machineOn register) ])
         go true = refl
         go false = listing-is (length deck) 0 (machineOn register) first
 
-    pub registered : registerAfter register deck ≡ mannerRegister n register deck
+    pub registered : registerAfter register deck ≡ mannerRegister read n register deck
     unfolding registerAfter mannerRegister
     registered = go (ltb 65536 (length deck))
       where
         go : (b : Bool) →
             _≡_ {A = List ℕ} (elim b [ true ↦ register | false ↦ registerFrom (length deck) deck 0 (machineOn register) ])
-            (elim b [ true ↦ register | false ↦ mannerRegisterFrom n (length deck) deck 0 (machineOn register) ])
+            (elim b [ true ↦ register | false ↦ mannerRegisterFrom read n (length deck) deck 0 (machineOn register) ])
         go true = refl
         go false = register-is (length deck) 0 (machineOn register) first
 

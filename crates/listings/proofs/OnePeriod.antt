@@ -1,6 +1,6 @@
 -- A deck has one period throughout, so each of its orders does what it did.
 use Prim.Native.Nat.{ℕ}
-use mathlib.Core.Path.{_≡_, ap, _∙_}
+use mathlib.Core.Path.{_≡_, refl, ap, _∙_}
 use mathlib.Core.List.{List, [], _∷_}
 use lib.ListN.{length}
 use Rattle.commands.specs.declared.Entry.{Entry}
@@ -25,9 +25,10 @@ one-after o m one = ap (λ (g : Draft). g .brought .sheet .starts) (entered-kept
 pub one-entered : (e : Entry) (m : Machine) → One m → One (withDraft m (added e (m .draft)))
 one-entered e m one = one-period .kept e (m .draft) ∙ one
 
-along : (deck : List ℕ) → Along steadyManner deck (λ commands at m. One m)
+along : (deck : List ℕ) → Along commandAt steadyManner deck (λ commands at m. One m)
 along deck =
     record {
+      reads = λ commands at m b one. refl;
       same = λ commands at m o b e one. ordered steadyManner o m _ (calls-steady (m .draft .brought) one) tt;
       on = λ commands at m text next t b q one.
           goes-on (λ next t. One t) at m (commandAt deck at) text next t q (λ o e. one-after o m one) (λ y e r. one-entered y m one);
@@ -36,6 +37,6 @@ along deck =
 pub decks-steady : DecksSteady
 decks-steady =
     record {
-      listing = λ register deck. listed steadyManner deck _ (along deck) register (one-period .first);
-      register-left = λ register deck. registered steadyManner deck _ (along deck) register (one-period .first);
+      listing = λ register deck. listed commandAt steadyManner deck _ (along deck) register (one-period .first);
+      register-left = λ register deck. registered commandAt steadyManner deck _ (along deck) register (one-period .first);
     }

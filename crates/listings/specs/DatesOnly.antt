@@ -1,24 +1,42 @@
--- All fractions 0 reproduce the listing before T-01, and the register: in a deck that enters none, and in one that enters m zeros before its orders.
-use Prim.Native.Nat.{ℕ, zero, suc, _+_}
+-- All fractions 0 reproduce the listing before T-01, and the register: in a deck whose orders all meet m zeros. One that has no command 0D is such a
+-- deck, also by the commands as they were; so is one that enters m zeros before its orders.
+use Prim.Native.Nat.{ℕ, zero, suc, _+_, _-_}
 use mathlib.Core.Path.{_≡_}
 use mathlib.Core.Bool.{Bool, true, false, not, _&&_}
 use mathlib.Core.List.{List, []}
-use lib.Dec.{ltb}
-use lib.ListN.{length}
+use lib.Dec.{leb, ltb, eqb}
+use lib.ListN.{length, getD}
 use Rattle.commands.specs.declared.Command.{Command}
 use Rattle.commands.specs.declared.Command.the-variants.{Enter, Act, Unknown, CutShort}
-use Rattle.commands.specs.Commands.{commandAt, entrySize, orderSize}
+use Rattle.commands.specs.declared.Order.{Order}
+use Rattle.commands.specs.declared.Order.the-variants.{Issue, Withdraw, Open, Back, Value, Delta, Forward}
+use Rattle.commands.specs.Commands.{operands, decoded, pick, commandAt, entrySize, orderSize}
+use Rattle.sheet.specs.Terms.{Terms}
 use Rattle.entries.specs.Draft.{fractions}
-use Rattle.entries.specs.DatesOnly.{entersFraction}
 use Rattle.walk.specs.DatesOnly.{datesOnlyManner}
 use Rattle.machine.specs.Machine.{Machine, machineOn}
-use Rattle.listings.specs.Effects.{Effect, stop, goOn, effectOf}
+use Rattle.listings.specs.Effects.{goOn, effectOf}
 use Rattle.listings.specs.Listing.{listingOn, registerAfter}
 use Rattle.listings.specs.Manners.{mannerListing, mannerRegister}
 
--- Where a command is an order, the sheet that it meets has the fractions of a deck that enters none: m zeros.
+-- ---- decks whose orders meet m zeros
+
+-- The fractions are those of a deck that enters none.
+abbrev pub HasZeros : Terms → Type 0
+HasZeros x = x .elapsed ≡ fractions [] (x .steps)
+
+-- An order that brings a sheet meets m zeros.
+abbrev pub OrderMeets : Order → Machine → Type 0
+OrderMeets (Issue y) m = Unit {0}
+OrderMeets (Withdraw y) m = Unit {0}
+OrderMeets Open m = HasZeros (m .draft .brought .sheet)
+OrderMeets (Back c) m = HasZeros (m .draft .brought .sheet)
+OrderMeets (Value j k) m = HasZeros (m .draft .brought .sheet)
+OrderMeets (Delta j k) m = HasZeros (m .draft .brought .sheet)
+OrderMeets (Forward i k) m = HasZeros (m .draft .brought .sheet)
+
 abbrev pub MeetsZeros : Command → Machine → Type 0
-MeetsZeros (Act o) m = m .draft .brought .sheet .elapsed ≡ fractions [] (m .draft .brought .sheet .steps)
+MeetsZeros (Act o) m = OrderMeets o m
 MeetsZeros (Enter e) m = Unit {0}
 MeetsZeros Unknown m = Unit {0}
 MeetsZeros CutShort m = Unit {0}
@@ -31,33 +49,40 @@ ZerosFrom (suc commands) deck at m =
     MeetsZeros (commandAt deck at) m
     × ((text : List ℕ) (next : ℕ) (t : Machine) → effectOf (commandAt deck at) at m ≡ goOn text next t → ZerosFrom commands deck next t)
 
--- Whether a command is 0D, and how many bytes a command has. A byte that is none has no size: there the run ends.
-abbrev pub isElapsed : Command → Bool
-isElapsed (Enter e) = entersFraction e
-isElapsed (Act o) = false
-isElapsed Unknown = false
-isElapsed CutShort = false
+-- ---- decks without 0D
 
+-- What stood at an offset: the bytes 01 to 0C were commands, with the operands that they have.
+unfoldable pub earlierCommandAt : List ℕ → ℕ → Command
+earlierCommandAt s at =
+    let code = getD s at 0 in
+    let rest = length s - (at + 1) in
+    pick (leb 1 code && leb code 12) (pick (leb (operands code) rest) (decoded code s (at + 1)) CutShort) Unknown
+
+-- How many bytes a command has. One that is none has no size: there the run ends.
 abbrev pub commandSize : Command → ℕ
 commandSize (Enter e) = entrySize e
 commandSize (Act o) = orderSize o
 commandSize Unknown = 0
 commandSize CutShort = 0
 
--- No command of a deck, read one after the other, is 0D.
+-- No command byte of a deck, read one after the other, is 0D.
 unfoldable pub entersNone : ℕ → List ℕ → ℕ → Bool
 entersNone zero deck at = true
 entersNone (suc commands) deck at =
     elim (ltb at (length deck)) [
-      | true ↦ not (isElapsed (commandAt deck at)) && entersNone commands deck (at + commandSize (commandAt deck at))
+      | true ↦ not (eqb (getD deck at 0) 13) && entersNone commands deck (at + commandSize (commandAt deck at))
       | false ↦ true
     ]
 
--- Of any deck of that kind, on any register.
+-- ---- of any such deck, on any register
+
 pub record DecksByDates : Type 0 where
   pub listing : (register deck : List ℕ) → ZerosFrom (length deck) deck 0 (machineOn register) →
-      listingOn register deck ≡ mannerListing datesOnlyManner register deck
+      listingOn register deck ≡ mannerListing commandAt datesOnlyManner register deck
   pub register-left : (register deck : List ℕ) → ZerosFrom (length deck) deck 0 (machineOn register) →
-      registerAfter register deck ≡ mannerRegister datesOnlyManner register deck
-  -- A deck that enters none is of that kind.
-  pub none : (register deck : List ℕ) → entersNone (length deck) deck 0 ≡ true → ZerosFrom (length deck) deck 0 (machineOn register)
+      registerAfter register deck ≡ mannerRegister commandAt datesOnlyManner register deck
+  -- Without 0D the listing and the register are the earlier ones, by the earlier commands.
+  pub listing-without : (register deck : List ℕ) → entersNone (length deck) deck 0 ≡ true →
+      listingOn register deck ≡ mannerListing earlierCommandAt datesOnlyManner register deck
+  pub register-without : (register deck : List ℕ) → entersNone (length deck) deck 0 ≡ true →
+      registerAfter register deck ≡ mannerRegister earlierCommandAt datesOnlyManner register deck

@@ -1,4 +1,4 @@
--- A deck by calls of any manner: what it prints, and the register that it leaves.
+-- A deck by calls of any manner, and by any reading of its commands: what it prints, and the register that it leaves.
 use Prim.Native.Nat.{ℕ, zero, suc, _+_}
 use mathlib.Core.Bool.{true, false}
 use mathlib.Core.List.{List, [], _++_}
@@ -9,7 +9,7 @@ use Rattle.commands.specs.declared.Command.{Command}
 use Rattle.commands.specs.declared.Command.the-variants.{Enter, Act, Unknown, CutShort}
 use Rattle.commands.specs.declared.Order.{Order}
 use Rattle.commands.specs.declared.Order.the-variants.{Issue, Withdraw, Open, Back, Value, Delta, Forward}
-use Rattle.commands.specs.Commands.{commandAt, orderSize}
+use Rattle.commands.specs.Commands.{orderSize}
 use Rattle.walk.specs.Manners.{Manner, openBy, backBy, valueBy, ratioBy, forwardBy}
 use Rattle.machine.specs.Machine.{Machine, machineOn}
 use Rattle.machine.specs.Rooms.{lentRows, leftInRooms, leftInRow, countSaid, saidBeside}
@@ -45,28 +45,32 @@ mannerEffect n CutShort at m = stop (deckLine 19 at)
 mannerEffect n (Enter e) at m = entryEffect e at m
 mannerEffect n (Act o) at m = goOn (orderLine o (mannerTransition n o m .said)) (at + orderSize o) (mannerTransition n o m .next)
 
+-- What stands at an offset of a deck.
+abbrev pub Reading : Type 0
+Reading = List ℕ → ℕ → Command
+
 -- The listing by them.
-unfoldable pub mannerListingFrom : Manner → ℕ → List ℕ → ℕ → Machine → List ℕ
-mannerListingFrom n zero deck at m = []
-mannerListingFrom n (suc commands) deck at m =
+unfoldable pub mannerListingFrom : Reading → Manner → ℕ → List ℕ → ℕ → Machine → List ℕ
+mannerListingFrom read n zero deck at m = []
+mannerListingFrom read n (suc commands) deck at m =
     elim (ltb at (length deck)) [
-      | true ↦ elim (mannerEffect n (commandAt deck at) at m) [ stop text ↦ text | goOn text next t ↦ text ++ mannerListingFrom n commands deck next t ]
+      | true ↦ elim (mannerEffect n (read deck at) at m) [ stop text ↦ text | goOn text next t ↦ text ++ mannerListingFrom read n commands deck next t ]
       | false ↦ []
     ]
 
-unfoldable pub mannerListing : Manner → List ℕ → List ℕ → List ℕ
-mannerListing n register deck =
-    elim (ltb 65536 (length deck)) [ true ↦ deckLine 20 65536 | false ↦ mannerListingFrom n (length deck) deck 0 (machineOn register) ]
+unfoldable pub mannerListing : Reading → Manner → List ℕ → List ℕ → List ℕ
+mannerListing read n register deck =
+    elim (ltb 65536 (length deck)) [ true ↦ deckLine 20 65536 | false ↦ mannerListingFrom read n (length deck) deck 0 (machineOn register) ]
 
 -- The register by them.
-unfoldable pub mannerRegisterFrom : Manner → ℕ → List ℕ → ℕ → Machine → List ℕ
-mannerRegisterFrom n zero deck at m = m .register
-mannerRegisterFrom n (suc commands) deck at m =
+unfoldable pub mannerRegisterFrom : Reading → Manner → ℕ → List ℕ → ℕ → Machine → List ℕ
+mannerRegisterFrom read n zero deck at m = m .register
+mannerRegisterFrom read n (suc commands) deck at m =
     elim (ltb at (length deck)) [
-      | true ↦ elim (mannerEffect n (commandAt deck at) at m) [ stop text ↦ m .register | goOn text next t ↦ mannerRegisterFrom n commands deck next t ]
+      | true ↦ elim (mannerEffect n (read deck at) at m) [ stop text ↦ m .register | goOn text next t ↦ mannerRegisterFrom read n commands deck next t ]
       | false ↦ m .register
     ]
 
-unfoldable pub mannerRegister : Manner → List ℕ → List ℕ → List ℕ
-mannerRegister n register deck =
-    elim (ltb 65536 (length deck)) [ true ↦ register | false ↦ mannerRegisterFrom n (length deck) deck 0 (machineOn register) ]
+unfoldable pub mannerRegister : Reading → Manner → List ℕ → List ℕ → List ℕ
+mannerRegister read n register deck =
+    elim (ltb 65536 (length deck)) [ true ↦ register | false ↦ mannerRegisterFrom read n (length deck) deck 0 (machineOn register) ]

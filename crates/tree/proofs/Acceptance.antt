@@ -11,7 +11,7 @@ use Rattle.tree.specs.Backward.{rollNode, backFrom, back, over, legValue
 use Rattle.tree.specs.Legs.{defaultCash, premiumCash, premiumExact, elapsedCash, elapsedExact, mark}
 use Rattle.tree.specs.Sheet.{hazardOf, discountOf, accrualOf, elapsedOf, poolLossOf, poolRecoveryOf, lossOf, outstandingOf, treeOf, defaultOf, premiumOf, D, A, exactD, exactA, dates, elapsedCount, premiumHalves, premiumMost, spanning}
 use Rattle.tree.specs.Forward.{same, outflow, fromBelow, pushed, distribution, lands, probability, apart, errors}
-use Rattle.tree.specs.Trials.{Starred, Exactly, Roundings, Recoveries, Bounds, PeriodsCrossed, ElapsedPaid, CeilingLeft}
+use Rattle.tree.specs.Trials.{Starred, Exactly, Roundings, Recoveries, Bounds, PeriodsCrossed, ElapsedPaid, CeilingLeft, Distances}
 
 pub starred : Starred
 unfolding B half poolLoss poolRecovery trancheLoss trancheRecovery trancheOutstanding indexOutstanding defaultPayment premiumPayment elapsedPayment rollNode backFrom back legValue defaultCash premiumCash elapsedCash premiumExact elapsedExact begun periodOf hazardOf discountOf accrualOf elapsedOf poolLossOf poolRecoveryOf lossOf outstandingOf treeOf defaultOf premiumOf D A same outflow fromBelow pushed distribution
@@ -140,3 +140,7 @@ elapsed-paid =
 pub ceiling-left : CeilingLeft
 unfolding B half poolLoss poolRecovery trancheLoss trancheRecovery trancheOutstanding indexOutstanding premiumPayment elapsedPayment rollNode backFrom premiumCash elapsedCash begun periodOf hazardOf discountOf accrualOf elapsedOf poolLossOf poolRecoveryOf outstandingOf treeOf premiumOf sumOf premiumMost
 ceiling-left = record { first = refl; second = refl; walked = refl; left = refl }
+
+pub distances : Distances
+unfolding over mark accrualOf elapsedOf dates elapsedCount premiumHalves
+distances = record { none = refl; both = refl; date-and-fraction = refl; fraction-alone = refl; date-alone = refl; apart = refl }

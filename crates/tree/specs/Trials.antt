@@ -198,7 +198,7 @@ sureDefault =
       hazards = 1_000_000_000 ∷ [];
       discounts = 1_000_000_000 ∷ 1_000_000_000 ∷ [];
       accruals = 0 ∷ 1_000_000_000 ∷ [];
-      elapsed = 1_000_000_000 ∷ 1_000_000_000 ∷ [];
+      elapsed = 1_000_000_000 ∷ 0 ∷ [];
     }
 
 -- The starred entries. The deck's figures stand at its root; tranche 1 of it is the index.
@@ -319,3 +319,12 @@ pub record CeilingLeft : Type 0 where
   pub second : premiumMost sureDefault 1 1 ≡ 1_000_000_002
   pub walked : backFrom (treeOf sureDefault) (premiumOf sureDefault 1 .rounded) (λ k. 1_000_000_002) 1 0 0 ≡ 2_000_000_002
   pub left : premiumMost sureDefault 0 0 ≡ 1_000_000_005
+
+-- The half units of distances: two for each step, one for each premium date and one for each fraction that is not 0.
+pub record Distances : Type 0 where
+  pub none : premiumHalves worked 2 0 ≡ 5
+  pub both : premiumHalves workedEarning 2 0 ≡ 7
+  pub date-and-fraction : premiumHalves workedEarning 1 1 ≡ 4
+  pub fraction-alone : premiumHalves sureDefault 1 0 ≡ 3
+  pub date-alone : premiumHalves sureDefault 1 1 ≡ 3
+  pub apart : premiumHalves sureDefault 2 0 ≡ 6

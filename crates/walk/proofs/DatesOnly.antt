@@ -8,18 +8,20 @@ use lib.ListN.{getD, replicate}
 use Rattle.cash.specs.Units.{B, half}
 use Rattle.sheet.specs.Terms.{Terms}
 use Rattle.sheet.specs.Brought.{Brought}
-use Rattle.tree.specs.Sheet.{elapsedOf, NoneElapsed, outstandingOf, defaultOf, premiumOf}
-use Rattle.tree.specs.DatesOnly.{datesOnly}
+use Rattle.tree.specs.Paths.{survive, default}
+use Rattle.tree.specs.Backward.{rollNode, Leg}
+use Rattle.tree.specs.Sheet.{hazardOf, discountOf, accrualOf, elapsedOf, NoneElapsed, poolLossOf, poolRecoveryOf, lossOf, widthOf, outstandingOf, treeOf, defaultOf, premiumOf, defaultMost}
+use Rattle.tree.specs.DatesOnly.{datesOnly, datesMost}
 use Rattle.tree.proofs.DatesOnly.{by-dates}
-use Rattle.rows.specs.Rows.{Rows, nodeIn, rolledBack}
-use Rattle.refusals.specs.Tests.{poolBad, Test, first, sheetTests}
-use Rattle.refusals.specs.DatesOnly.{datesOnlyTests}
+use Rattle.rows.specs.Rows.{Rows, nodeIn, rowOf, rolled, rolledBack, anyOver, distributionRow}
+use Rattle.refusals.specs.Tests.{poolBad, periodsBad, recoveryBad, attachmentsBad, startsBad, hazardsBad, discountsBad, accrualsBad, couponsBad, Test, first, sheetTests}
+use Rattle.refusals.specs.DatesOnly.{datesOnlyListsBad, datesOnlyTests}
 use Rattle.refusals.proofs.DatesOnly.{refusals-by-dates}
 use Rattle.walk.specs.declared.Walk.{Walk}
 use Rattle.walk.specs.CallRules.{backwardRule, BackStep}
 use Rattle.walk.specs.Calls.{rolls}
 use Rattle.walk.specs.Manners.{CeilingsAsked, CallsAlike}
-use Rattle.walk.specs.DatesOnly.{ZeroFractions, RuleByDates, datesOnlyManner, SoiledAlike, ZeroFractionCalls}
+use Rattle.walk.specs.DatesOnly.{ZeroFractions, RuleByDates, datesOnlySoiled, datesOnlyManner, withElapsed, ReadsNoFraction, DatesOnlyBlind, SoiledAlike, ZeroFractionCalls}
 use Rattle.walk.proofs.Manners.{calls-alike}
 
 -- As many zeros as one likes.
@@ -74,3 +76,46 @@ module _ (x : Brought) (n : ℕ) (zeros : x .sheet .elapsed ≡ replicate n 0) (
 
 pub calls-by-dates : ZeroFractionCalls
 calls-by-dates x z = calls-by-zeros x (x .sheet .steps) z (λ e. refl) _ (λ register walk rows l e. l)
+
+-- ---- no fraction is read
+
+module _ (x : Brought) (elapsed : List ℕ) where
+  abbrev other : Terms
+  other = withElapsed x elapsed .sheet
+
+  hazards-same : hazardOf other ≡ hazardOf (x .sheet)
+  unfolding hazardOf
+  hazards-same = refl
+
+  legs-same : datesOnly other ≡ datesOnly (x .sheet)
+  unfolding datesOnly accrualOf outstandingOf poolLossOf poolRecoveryOf
+  legs-same = refl
+
+  defaults-same : defaultOf other ≡ defaultOf (x .sheet)
+  unfolding defaultOf lossOf poolLossOf
+  defaults-same = refl
+
+  rolled-same : (f g : ℕ → Leg) → f ≡ g → (i c : ℕ) (row : List ℕ) → rolledBack other f i c row ≡ rolledBack (x .sheet) g i c row
+  unfolding rolledBack rolled rowOf nodeIn hazardOf discountOf
+  rolled-same f g e i zero row = refl
+  rolled-same f g e i (suc c) row =
+      λ t. rowOf (x .sheet) (λ j k.
+      rollNode (hazardOf (x .sheet) (suc (i - suc c)) k) (discountOf (x .sheet) (suc (i - suc c)))
+      (nodeIn (x .sheet) (rolled-same f g e i c row t) j (suc k) + e t j .rounded (suc (i - suc c)) k default)
+      (nodeIn (x .sheet) (rolled-same f g e i c row t) j k + e t j .rounded (suc (i - suc c)) k survive))
+
+  pub reads-no-fraction : ReadsNoFraction datesOnlyManner x elapsed
+  unfolding datesOnlyManner datesOnlyTests datesOnlyListsBad poolBad periodsBad recoveryBad attachmentsBad startsBad hazardsBad discountsBad accrualsBad couponsBad datesOnlySoiled anyOver nodeIn defaultMost widthOf lossOf poolLossOf datesMost distributionRow treeOf hazardOf discountOf
+  reads-no-fraction =
+      record {
+        checks = λ lent more. refl;
+        over = λ i rows. refl;
+        rolled = λ i c rows t. record {
+          defaults = rolled-same _ _ defaults-same i c (rows .defaults) t;
+          premiums = rolled-same _ _ legs-same i c (rows .premiums) t;
+        };
+        spread = λ i. refl;
+      }
+
+pub dates-only-blind : DatesOnlyBlind
+dates-only-blind x elapsed = reads-no-fraction x elapsed

@@ -1,8 +1,9 @@
 -- With all fractions 0 the rule of back is the earlier one, whatever rows are lent, and so is every call, but for rows with a premium leg between the
--- earlier ceiling and the present one: those were refused with 12 and are taken now (T-01). What is kept here as it was reads no fraction.
+-- earlier ceiling and the present one: those were refused with 12 and are taken now (T-01). What is kept here as it was reads no fraction, which is a law too.
 use Prim.Native.Nat.{ℕ, suc, _+_, _*_}
 use mathlib.Core.Path.{_≡_}
 use mathlib.Core.Bool.{Bool, _||_}
+use mathlib.Core.List.{List}
 use lib.ListN.{getD, replicate}
 use Rattle.cash.specs.Units.{half}
 use Rattle.sheet.specs.Terms.{Terms}
@@ -10,6 +11,7 @@ use Rattle.sheet.specs.Brought.{Brought}
 use Rattle.tree.specs.Sheet.{outstandingOf, defaultOf, defaultMost}
 use Rattle.tree.specs.DatesOnly.{datesOnly, datesMost}
 use Rattle.rows.specs.Rows.{Rows, nodeIn, AtEveryNode, rolledBack, anyOver, soiled, distributionRow}
+use Rattle.refusals.specs.Tests.{Test}
 use Rattle.refusals.specs.DatesOnly.{datesOnlyTests}
 use Rattle.walk.specs.CallRules.{backwardRule, BackStep}
 use Rattle.walk.specs.Manners.{Manner, CallsAlike}
@@ -46,6 +48,36 @@ datesOnlyManner =
           };
       spread = distributionRow;
     }
+
+-- It reads no fraction: none of the four asks what the list is.
+abbrev pub withElapsed : Brought → List ℕ → Brought
+withElapsed x elapsed =
+    record {
+      sheet =
+          record {
+            names = x .sheet .names;
+            steps = x .sheet .steps;
+            tranches = x .sheet .tranches;
+            recovery = x .sheet .recovery;
+            attachments = x .sheet .attachments;
+            starts = x .sheet .starts;
+            hazards = x .sheet .hazards;
+            discounts = x .sheet .discounts;
+            accruals = x .sheet .accruals;
+            elapsed = elapsed;
+          };
+      number = x .number;
+      coupons = x .coupons;
+    }
+
+pub record ReadsNoFraction (m : Manner) (x : Brought) (elapsed : List ℕ) : Type 0 where
+  pub checks : (lent : Bool) (more : List Test) → m .checks (withElapsed x elapsed) lent more ≡ m .checks x lent more
+  pub over : (i : ℕ) (rows : Rows) → m .over (withElapsed x elapsed .sheet) i rows ≡ m .over (x .sheet) i rows
+  pub rolled : (i c : ℕ) (rows : Rows) → m .rolled (withElapsed x elapsed .sheet) i c rows ≡ m .rolled (x .sheet) i c rows
+  pub spread : (i : ℕ) → m .spread (withElapsed x elapsed .sheet) i ≡ m .spread (x .sheet) i
+
+abbrev pub DatesOnlyBlind : Type 0
+DatesOnlyBlind = (x : Brought) (elapsed : List ℕ) → ReadsNoFraction datesOnlyManner x elapsed
 
 -- Rows that both ceilings tell alike.
 abbrev pub SoiledAlike : Terms → ℕ → Rows → Type 0
