@@ -1,7 +1,7 @@
 -- What opens when a deck is computed, under one name.
 use Rattle.cash.specs.Units.{B, half}
 use Rattle.cash.specs.Losses.{poolLoss, poolRecovery, trancheLoss, trancheRecovery, trancheOutstanding, indexOutstanding, defaultPayment, premiumPayment, elapsedPayment}
-use Rattle.cash.specs.Hedges.{netValue, changeOf, jumpOf, withSign as signedOf, millionths, ratioOf}
+use Rattle.hedges.specs.Hedges.{netValue, changeOf, jumpOf, withSign as signedOf, millionths, ratioOf}
 use Rattle.tree.specs.Backward.{rollNode, over}
 use Rattle.tree.specs.Legs.{defaultCash, premiumCash, elapsedCash, mark}
 use Rattle.sheet.specs.Terms.{sumOf}

@@ -6,8 +6,8 @@ use native.Mathlib.Numerals.{add-one}
 use native.Mathlib.Nat.{mul-le-mul-right}
 use native.Mathlib.Omega.{arith}
 use lib.ListN.{getD}
-use Rattle.cash.specs.declared.Node.{Node}
-use Rattle.cash.specs.Hedges.{Figures}
+use Rattle.hedges.specs.declared.Node.{Node}
+use Rattle.hedges.specs.Hedges.{Figures}
 use Rattle.sheet.specs.Terms.{Terms}
 use Rattle.sheet.specs.Brought.{Brought}
 use Rattle.sheet.specs.Limits.{TranchesWithin}

@@ -4,8 +4,8 @@ use mathlib.Core.Path.{_≡_}
 use lib.ListN.{length, getD}
 use lib.IntN.{ℤ}
 use Rattle.cash.specs.Units.{B}
-use Rattle.cash.specs.declared.Node.{Node}
-use Rattle.cash.specs.Hedges.{jumpOf}
+use Rattle.hedges.specs.declared.Node.{Node}
+use Rattle.hedges.specs.Hedges.{jumpOf}
 use Rattle.sheet.specs.Terms.{Terms}
 use Rattle.tree.specs.Sheet.{lossOf}
 use Rattle.rows.specs.Rows.{nodeIn, Rows, rowLength}

@@ -1,9 +1,9 @@
 -- What value and hedge ratio answer of what they read.
 use Prim.Native.Nat.{ℕ}
 use lib.ListN.{getD}
-use Rattle.cash.specs.declared.Hedge.{Hedge}
-use Rattle.cash.specs.declared.Hedge.the-variants as Hedge
-use Rattle.cash.specs.Hedges.{netValue}
+use Rattle.hedges.specs.declared.Hedge.{Hedge}
+use Rattle.hedges.specs.declared.Hedge.the-variants as Hedge
+use Rattle.hedges.specs.Hedges.{netValue}
 use Rattle.sheet.specs.Brought.{Brought}
 use Rattle.rows.specs.Rows.{Rows, nodeIn}
 use Rattle.refusals.specs.declared.Refusal.the-variants.{FlatHedge, OffScale}

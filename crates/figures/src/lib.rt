@@ -7,7 +7,7 @@ ghost use Rattle.sheet.specs.Spans.{broughtIn, termsIn};
 ghost use Rattle.rows.specs.Tables.{tab};
 ghost use Rattle.rows.specs.Rows.{rowsOf};
 ghost use Rattle.figures.specs.Nodes.{nodeOf, jump, Readable};
-use cash::Node;
+use hedges::Node;
 use refusals::Refusal;
 use sheet::Sheet;
 
@@ -74,7 +74,7 @@ pub fn jump_at(
 {
     let here = node_at(sheet, numbers, defaults, premiums, tranche, count);
     let next = node_at(sheet, numbers, defaults, premiums, tranche, count + 1);
-    cash::jump(
+    hedges::jump(
         sheet::number_at(sheet.coupons, numbers, tranche),
         here,
         next,

@@ -2,13 +2,13 @@
 ghost use mathlib.Core.Path.{_≡_};
 ghost use Prim.Native.Nat.{_≤_};
 ghost use lib.IntN.{natAbs};
-ghost use Rattle.cash.specs.Hedges.{hedgeOf};
+ghost use Rattle.hedges.specs.Hedges.{hedgeOf};
 ghost use Rattle.sheet.specs.Spans.{broughtIn};
 ghost use Rattle.rows.specs.Rows.{rowsOf};
 ghost use Rattle.figures.specs.Nodes.{Readable};
 ghost use Rattle.figures.specs.Replies.{worth, hedgeAnswer};
 use crate::Answer;
-use cash::Hedge;
+use hedges::Hedge;
 use refusals::Refusal;
 use sheet::Sheet;
 
@@ -28,7 +28,7 @@ pub fn worth_at(
     let d = defaults[place];
     let a = premiums[place];
     let coupon = sheet::number_at(sheet.coupons, numbers, tranche);
-    Answer::Worth(d, a, cash::net_value(d, coupon, a))
+    Answer::Worth(d, a, hedges::net_value(d, coupon, a))
 }
 
 // The ratio of two jumps as it is answered.
@@ -36,7 +36,7 @@ pub fn ratio_of(tranche: i64, index: i64) -> Answer
     requires { ⌜ (natAbs tranche ≤ 200_000_000_000_000_000) × (natAbs index ≤ 200_000_000_000_000_000) ⌝ }
     ensures { λ r. ⌜ r ≡ hedgeAnswer (hedgeOf tranche index) ⌝ }
 {
-    let hedge = cash::hedge_ratio(tranche, index);
+    let hedge = hedges::hedge_ratio(tranche, index);
     match hedge {
         Hedge::Flat => Answer::Refused(Refusal::FlatHedge),
         Hedge::OffScale => Answer::Refused(Refusal::OffScale),

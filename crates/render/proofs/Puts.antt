@@ -11,7 +11,7 @@ use mir.Syntax.{w64}
 use mir.Val.{SFits}
 use Rattle.lines.specs.Text.{decimal, field, Wrote}
 use Rattle.lines.proofs.Laws.{wrote-text, wrote-both, wrote-long, length-decimal, length-field-pos, length-field}
-use Rattle.cash.proofs.Negated.{read, read-is}
+use Rattle.hedges.proofs.Negated.{read, read-is}
 use Rattle.commands.specs.declared.Order.{Order}
 use Rattle.commands.specs.declared.Order.the-variants.{Issue, Withdraw, Open, Back, Value, Delta, Forward}
 use Rattle.answers.specs.declared.OrderAnswer.{OrderAnswer}

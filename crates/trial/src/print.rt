@@ -1,5 +1,5 @@
 // Words and numbers to standard output.
-use cash::magnitude;
+use hedges::magnitude;
 use libc::STDOUT_FILENO;
 use walk::Answer;
 

@@ -8,7 +8,7 @@ use native.Mathlib.Nat.{le-refl}
 use lib.ListN.{getD}
 use lib.IntN.{pos}
 use Rattle.cash.specs.Units.{B}
-use Rattle.cash.specs.Hedges.{netValue}
+use Rattle.hedges.specs.Hedges.{netValue}
 use Rattle.cash.proofs.Nearness.{near-as}
 use Rattle.cash.proofs.Sums.{sum-cong}
 use Rattle.sheet.specs.Terms.{Terms}

@@ -8,8 +8,8 @@ use borrow.Author.Tests.{lt-ltb, le-ltb, lt-leb}
 use lib.Dec.{leb, ltb, eqb}
 use lib.IntN.{ℤ, natAbs}
 use lib.ListN.{length, getD}
-use Rattle.cash.specs.declared.Hedge.the-variants as Hedge
-use Rattle.cash.specs.Hedges.{ratioOf, hedgeOf}
+use Rattle.hedges.specs.declared.Hedge.the-variants as Hedge
+use Rattle.hedges.specs.Hedges.{ratioOf, hedgeOf}
 use Rattle.tree.specs.Sheet.{defaultOf, premiumOf, defaultMost, premiumMost}
 use Rattle.rows.specs.Tables.{tab, grid}
 use Rattle.rows.specs.Rows.{rowLength, rowOf, rolledBack, distributionRow, rowsOf}
@@ -37,7 +37,7 @@ use Rattle.walk.proofs.Judging.{stands-fine}
 use Rattle.walk.proofs.Ordering.{Opening, OnWay, Forwarding, open-stands, open-holds, twelve-stands, twelve-holds, soiled-fine, forward-stands, forward-holds}
 use Rattle.admission.proofs.FirstRefusals.{twelve-refused, twelve-fine, ten-alike, ten-refused, ten-fine}
 use Rattle.walk.proofs.OurRules.{notDone, notForward, open-fine, open-refused, back-fine, back-refused, value-fine, value-refused, ratio-fine, ratio-refused, forward-fine, forward-refused}
-use Rattle.cash.proofs.Jumps.{jump-size}
+use Rattle.hedges.proofs.Jumps.{jump-size}
 use Rattle.figures.proofs.Places.{node-figures}
 
 -- ---- past the first ten checks, and open

@@ -10,7 +10,7 @@ use lib.ListN.{length, getD, set}
 use lib.Dec.{eqb}
 use Rattle.cash.specs.Units.{B}
 use Rattle.cash.specs.Sums.{sumTo}
-use Rattle.cash.specs.Hedges.{ratioOf}
+use Rattle.hedges.specs.Hedges.{ratioOf}
 use Rattle.cash.proofs.Sums.{sum-cong}
 use Rattle.register.specs.declared.answers.WriteAnswer as Register
 use Rattle.register.specs.Register.{Write, issue, withdraw, answerOf}

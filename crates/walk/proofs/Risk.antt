@@ -9,8 +9,8 @@ use lib.ListN.{getD}
 use lib.Dec.{ltb}
 use lib.IntN.{ℤ, pos, negsuc, negℤ, natAbs, subℕ, _+ℤ_, _*ℤ_, negℤ-negℤ}
 use borrow.Author.Tests.{le-ltb, ltb-true}
-use Rattle.cash.specs.declared.Node.{Node}
-use Rattle.cash.specs.Hedges.{negative, withSign, millionths, changeOf, jumpOf, ratioOf}
+use Rattle.hedges.specs.declared.Node.{Node}
+use Rattle.hedges.specs.Hedges.{negative, withSign, millionths, changeOf, jumpOf, ratioOf}
 use Rattle.cash.specs.Losses.{defaultPayment}
 use Rattle.sheet.specs.Limits.{TermsWithin}
 use Rattle.sheet.proofs.Limits.{limits-terms}

@@ -9,7 +9,7 @@ use lib.ListN.{length, getD, set}
 use lib.IntN.{ℤ, pos}
 use Rattle.cash.specs.Units.{B, half}
 use Rattle.cash.specs.Sums.{sumTo}
-use Rattle.cash.specs.Hedges.{netValue, ratioOf}
+use Rattle.hedges.specs.Hedges.{netValue, ratioOf}
 use Rattle.sheet.specs.Terms.{Terms}
 use Rattle.sheet.specs.Brought.{Brought}
 use Rattle.tree.specs.Sheet.{hazardOf, lossOf, outstandingOf, treeOf}

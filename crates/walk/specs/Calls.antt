@@ -4,7 +4,7 @@ use mathlib.Core.Bool.{true, _||_}
 use mathlib.Core.List.{List, [], _∷_}
 use lib.Dec.{leb, ltb, eqb}
 use lib.IntN.{natAbs}
-use Rattle.cash.specs.Hedges.{ratioOf}
+use Rattle.hedges.specs.Hedges.{ratioOf}
 use Rattle.tree.specs.Sheet.{defaultOf, premiumOf}
 use Rattle.rows.specs.Rows.{Rows, rowsOf, rowOf, rolledBack, distributionRow}
 use Rattle.sheet.specs.Brought.{Brought}

@@ -5,7 +5,7 @@ use mathlib.Core.Bool.{Bool, true, _||_}
 use mathlib.Core.List.{List, [], _∷_}
 use lib.Dec.{leb, ltb, eqb}
 use lib.IntN.{natAbs}
-use Rattle.cash.specs.Hedges.{ratioOf}
+use Rattle.hedges.specs.Hedges.{ratioOf}
 use Rattle.register.specs.Register.{statusIn}
 use Rattle.sheet.specs.Terms.{Terms}
 use Rattle.sheet.specs.Brought.{Brought}

@@ -6,7 +6,7 @@ use mathlib.Core.Path.{_≡_}
 use mathlib.Core.Bool.{true}
 use mathlib.Core.List.{[], _∷_}
 use lib.IntN.{ℤ, pos, _+ℤ_}
-use Rattle.cash.specs.Hedges.{changeOf}
+use Rattle.hedges.specs.Hedges.{changeOf}
 use Rattle.sheet.specs.Terms.{Terms}
 use Rattle.sheet.specs.Brought.{Brought}
 use Rattle.tree.specs.Sheet.{NoneElapsed, lossOf}

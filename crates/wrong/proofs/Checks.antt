@@ -8,7 +8,7 @@ use lib.ListN.{length, getD}
 use lib.Dec.{leb, ltb, eqb, leb·suc-suc, leb·suc-zero, eqb·suc-zero}
 use lib.IntN.{ℤ}
 use borrow.Author.Tests.{eqb-true, eqb-false, not-true}
-use Rattle.cash.specs.Hedges.{ratioOf}
+use Rattle.hedges.specs.Hedges.{ratioOf}
 use Rattle.register.proofs.Masks.{both}
 use Rattle.sheet.specs.Terms.{sumOf}
 use Rattle.tree.specs.Sheet.{defaultMost, premiumMost}

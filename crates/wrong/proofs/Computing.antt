@@ -1,7 +1,7 @@
 -- What opens when a call of ours is computed, under one name.
 use Rattle.cash.specs.Units.{B, half}
 use Rattle.cash.specs.Losses.{poolLoss, poolRecovery, trancheLoss, trancheRecovery, trancheOutstanding, indexOutstanding, defaultPayment, premiumPayment, elapsedPayment}
-use Rattle.cash.specs.Hedges.{netValue, changeOf, jumpOf, withSign, millionths, ratioOf}
+use Rattle.hedges.specs.Hedges.{netValue, changeOf, jumpOf, withSign, millionths, ratioOf}
 use Rattle.tree.specs.Paths.{allMoves, keeps, those, paths, weight, paid, total, pathSum, exact}
 use Rattle.tree.specs.Backward.{rollNode, over, legExact}
 use Rattle.tree.specs.Legs.{defaultCash, premiumCash, premiumExact, elapsedCash, elapsedExact, mark}

@@ -8,7 +8,7 @@ use mathlib.Core.Logic.{_≢_}
 use lib.ListN.{length, getD, set, take, drop, replicate}
 use lib.Dec.{leb, ltb, eqb}
 use lib.IntN.{natAbs}
-use Rattle.cash.specs.Hedges.{ratioOf}
+use Rattle.hedges.specs.Hedges.{ratioOf}
 use Rattle.register.specs.declared.answers.Status.{Status}
 use Rattle.register.specs.Register.{statusIn}
 use Rattle.register.specs.Events.{blankRegister}

@@ -7,12 +7,12 @@ use mathlib.Core.List.{List, [], _∷_}
 use lib.ListN.{length, getD, drop, replicate}
 use lib.Dec.{ltb, eqb}
 use lib.IntN.{ℤ, pos, natAbs, _+ℤ_, _-ℤ_, _*ℤ_}
-use Rattle.cash.specs.declared.Node.{Node}
+use Rattle.hedges.specs.declared.Node.{Node}
 use Rattle.cash.specs.Units.{B, half}
 use Rattle.cash.specs.Near.{Near}
 use Rattle.cash.specs.Sums.{sumTo}
 use Rattle.cash.specs.Losses.{trancheLoss, trancheRecovery, trancheOutstanding, indexOutstanding, premiumPayment, elapsedPayment}
-use Rattle.cash.specs.Hedges.{netValue, changeOf, jumpOf, negative, unlike, withSign, millionths, ratioOf}
+use Rattle.hedges.specs.Hedges.{netValue, changeOf, jumpOf, negative, unlike, withSign, millionths, ratioOf}
 use Rattle.tree.specs.Paths.{survive, default, Cash}
 use Rattle.tree.specs.Backward.{rollNode, Leg, legExact}
 use Rattle.tree.specs.Legs.{premiumCash, elapsedCash, defaultLeg, dateLeg, elapsedLeg, premiumLeg}

@@ -5,10 +5,10 @@ use mathlib.Core.List.{List, [], _∷_, _++_}
 use lib.ListN.{getD, set, take, replicate}
 use lib.Dec.{leb, eqb}
 use lib.IntN.{ℤ, pos, natAbs}
-use Rattle.cash.specs.declared.Node.{Node}
+use Rattle.hedges.specs.declared.Node.{Node}
 use Rattle.cash.specs.Units.{B, half}
 use Rattle.cash.specs.Losses.{premiumPayment}
-use Rattle.cash.specs.Hedges.{netValue, jumpOf, negative, unlike, withSign, millionths, ratioOf}
+use Rattle.hedges.specs.Hedges.{netValue, jumpOf, negative, unlike, withSign, millionths, ratioOf}
 use Rattle.register.specs.Register.{statusIn}
 use Rattle.tree.specs.Paths.{survive, default, countAfter, Cash}
 use Rattle.tree.specs.Backward.{Leg}

@@ -5,7 +5,7 @@ use mir.Syntax.{w64}
 use mir.ValLaws.{toZ-ofZ}
 use native.Mathlib.Numerals.{add-one}
 use native.Mathlib.Omega.{arith}
-use Rattle.cash.specs.Hedges.{jumpOf}
+use Rattle.hedges.specs.Hedges.{jumpOf}
 use Rattle.sheet.specs.Brought.{Brought}
 use Rattle.sheet.specs.Spans.{broughtIn}
 use Rattle.rows.specs.Rows.{Rows, rowsOf}

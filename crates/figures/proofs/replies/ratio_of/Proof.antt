@@ -3,7 +3,7 @@ use mathlib.Core.Path.{_≡_, sym, _∙_, ap}
 use mir.Syntax.{w64}
 use mir.ValLaws.{toZ-ofZ}
 use Rattle.figures.specs.declared.Answer.the-variants.{Ratio}
-use Rattle.cash.specs.Hedges.{hedgeOf}
+use Rattle.hedges.specs.Hedges.{hedgeOf}
 use Rattle.figures.specs.Replies.{hedgeAnswer}
 use Rattle.figures.proofs.replies.ratio_of.Statement.{statement}
 use Rattle.figures.proofs.replies.ratio_of.Tie as tie

@@ -20,7 +20,7 @@ use mir.Syntax.{w64}
 use mir.Val.{toZ, ofZ}
 use mir.ValLaws.{toZ-ofZ}
 use lib.IntN.{ℤ, natAbs}
-use Rattle.cash.specs.Hedges.{hedgeOf}
+use Rattle.hedges.specs.Hedges.{hedgeOf}
 use Rattle.sheet.specs.Limits.{TranchesWithin}
 use Rattle.sheet.proofs.Limits.{limits-terms}
 use Rattle.figures.specs.Nodes.{jump, Readable}

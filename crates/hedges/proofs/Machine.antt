@@ -8,8 +8,8 @@ use lib.IntN.{ℤ, pos, negsuc, natAbs}
 use mir.Syntax.{w64}
 use mir.Val.{SFits, toZ, ofZ}
 use mir.ValLaws.{toZ-ofZ, toZ-pos}
-use Rattle.cash.specs.Hedges.{withSign}
-use Rattle.cash.proofs.Signs.{size-of}
+use Rattle.hedges.specs.Hedges.{withSign}
+use Rattle.hedges.proofs.Signs.{size-of}
 
 small : (z : ℤ) → natAbs z < 2 ^ 63 → SFits w64 z
 small (pos n) h = record { sfits = h }

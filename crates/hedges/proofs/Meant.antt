@@ -7,8 +7,8 @@ use native.Mathlib.Omega.{arith}
 use lib.IntN.{ℤ, pos, natAbs, _+ℤ_, _-ℤ_, _*ℤ_}
 use mir.Syntax.{w64}
 use mir.Val.{SFits, toZ, ofZ}
-use Rattle.cash.proofs.Machine.{fits-of, back, two, from-nat}
-use Rattle.cash.proofs.Signs.{size-plus, size-minus, size-times}
+use Rattle.hedges.proofs.Machine.{fits-of, back, two, from-nat}
+use Rattle.hedges.proofs.Signs.{size-plus, size-minus, size-times}
 
 pub record Is (z z′ : ℤ) (n : ℕ) : Type 0 where
   pub is : z ≡ z′

@@ -8,11 +8,11 @@ use borrow.Author.Tests.{eq-eqb, ne-eqb, le-leb, lt-leb}
 use native.Mathlib.Numerals.{add-one}
 use lib.IntN.{ℤ, pos, natAbs, _+ℤ_, _-ℤ_}
 use lib.Signed.{quotZ, remZ}
-use Rattle.cash.specs.declared.Hedge.the-variants.{Millionths, Flat, OffScale}
-use Rattle.cash.specs.Hedges.{negative, unlike, withSign, ratioOf, hedgeOf}
-use Rattle.cash.proofs.Machine.{two}
-use Rattle.cash.proofs.Signs.{signed-of, plus, quot, rem}
-use Rattle.cash.proofs.Division.{next-quotient, next-rest}
+use Rattle.hedges.specs.declared.Hedge.the-variants.{Millionths, Flat, OffScale}
+use Rattle.hedges.specs.Hedges.{negative, unlike, withSign, ratioOf, hedgeOf}
+use Rattle.hedges.proofs.Machine.{two}
+use Rattle.hedges.proofs.Signs.{signed-of, plus, quot, rem}
+use Rattle.hedges.proofs.Division.{next-quotient, next-rest}
 
 abbrev pub sign : ℤ → ℤ → Bool
 sign s d = unlike (negative s) (negative d)

@@ -2,11 +2,11 @@
 use mathlib.Core.Path.{_≡_, refl}
 use Prim.Native.Nat.{ℕ, _*_, _≤_}
 use lib.IntN.{ℤ, pos, natAbs}
 use Rattle.cash.specs.Units.{B}
-use Rattle.cash.specs.declared.Node.{Node}
-use Rattle.cash.specs.Hedges.{changeOf, jumpOf, Figures}
-use Rattle.cash.proofs.Signs.{size-change}
-use Rattle.cash.proofs.Meant.{Is, meant, lit, add, sub, mul}
+use Rattle.hedges.specs.declared.Node.{Node}
+use Rattle.hedges.specs.Hedges.{changeOf, jumpOf, Figures}
+use Rattle.hedges.proofs.Signs.{size-change}
+use Rattle.hedges.proofs.Meant.{Is, meant, lit, add, sub, mul}
 
 -- a change between figures of at most n, known by an equation
 pub changed : {z : ℤ} (before after n : ℕ) → before ≤ n → after ≤ n → z ≡ changeOf before after → Is z (changeOf before after) n

@@ -1,15 +1,15 @@
--- `cash::net_value` meets its contract.
+-- `hedges::net_value` meets its contract.
 use borrow.Author.Needs.{needs}
 use Prim.Native.Nat.{_*_}
 use lib.Dec.{lit<}
 use lib.IntN.{pos, _*ℤ_}
 use mir.Syntax.{w64}
 use mir.Val.{toZ}
 use Rattle.cash.specs.Units.{B}
-use Rattle.cash.specs.Hedges.{netValue}
-use Rattle.cash.proofs.Meant.{Is, casts, lit, nat, sub, mul, fits, read}
-use Rattle.cash.proofs.net_value.Statement.{statement}
-use Rattle.cash.proofs.net_value.Tie as tie
+use Rattle.hedges.specs.Hedges.{netValue}
+use Rattle.hedges.proofs.Meant.{Is, casts, lit, nat, sub, mul, fits, read}
+use Rattle.hedges.proofs.net_value.Statement.{statement}
+use Rattle.hedges.proofs.net_value.Tie as tie
 
 cast-result : tie.Need-cast-result
 unfolding B

@@ -1,10 +1,10 @@
--- `cash::magnitude` meets its contract: x + 1 of a negative x can be negated, also of the least `i64`.
+-- `hedges::magnitude` meets its contract: x + 1 of a negative x can be negated, also of the least `i64`.
 use mathlib.Core.Path.{ap}
 use native.Mathlib.Omega.{arith}
 use lib.IntN.{natAbs}
-use Rattle.cash.proofs.Negated.{Negation, negation, negation-cast, negation-fits, negation-size, straight, read-is}
-use Rattle.cash.proofs.magnitude.Statement.{statement}
-use Rattle.cash.proofs.magnitude.Tie as tie
+use Rattle.hedges.proofs.Negated.{Negation, negation, negation-cast, negation-fits, negation-size, straight, read-is}
+use Rattle.hedges.proofs.magnitude.Statement.{statement}
+use Rattle.hedges.proofs.magnitude.Tie as tie
 
 neg : (c : tie.Then1) → Negation (c .before .args .x)
 neg c = negation (c .before .args .x) (c .before .fits .x) (c .if1 .taken)

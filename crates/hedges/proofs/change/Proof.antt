@@ -1,10 +1,10 @@
--- `cash::change` meets its contract.
+-- `hedges::change` meets its contract.
 use lib.Dec.{lit<}
 use Rattle.cash.specs.Units.{B}
-use Rattle.cash.specs.Hedges.{changeOf}
-use Rattle.cash.proofs.Meant.{casts, nat, sub, fits, read}
-use Rattle.cash.proofs.change.Statement.{statement}
-use Rattle.cash.proofs.change.Tie as tie
+use Rattle.hedges.specs.Hedges.{changeOf}
+use Rattle.hedges.proofs.Meant.{casts, nat, sub, fits, read}
+use Rattle.hedges.proofs.change.Statement.{statement}
+use Rattle.hedges.proofs.change.Tie as tie
 
 cast-result : tie.Need-cast-result
 unfolding B

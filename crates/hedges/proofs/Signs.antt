@@ -8,7 +8,7 @@ use lib.Dec.{ltb, leb·zero}
 use native.Mathlib.Omega.{arith}
 use lib.IntN.{ℤ, pos, negsuc, natAbs, negℤ, _+ℤ_, _-ℤ_, _*ℤ_, subℕ, negℤ-+ℤ}
 use lib.Signed.{quotZ, remZ, ltZ, leZ}
-use Rattle.cash.specs.Hedges.{negative, unlike, withSign}
+use Rattle.hedges.specs.Hedges.{negative, unlike, withSign}
 
 pub signed-of : (z : ℤ) → z ≡ withSign (negative z) (natAbs z)
 unfolding withSign

@@ -4,9 +4,9 @@ use Prim.Native.Nat.{ℕ, _+_, _*_, _<_}
 use native.Mathlib.Nat.{div-add-mod', mod-lt, le-div-iff-mul-le}
 use native.Mathlib.Omega.{arith}
 use lib.IntN.{ℤ}
 use Rattle.cash.specs.Near.{Near}
-use Rattle.cash.specs.Hedges.{Hedges, hedgeOf, hedgeNumber, millionths}
-use Rattle.cash.proofs.Long.{flat, off-scale, answered}
+use Rattle.hedges.specs.Hedges.{Hedges, hedgeOf, hedgeNumber, millionths}
+use Rattle.hedges.proofs.Long.{flat, off-scale, answered}
 
 pub hedges : (tranche index : ℤ) → Hedges tranche index (hedgeOf tranche index)
 hedges tranche index =

@@ -4,10 +4,10 @@ use mathlib.Core.Path.{_≡_}
 use Prim.Native.Nat.{ℕ, _+_, _*_, _/_, _≤_, _<_}
 use lib.Dec.{eqb, leb}
 use lib.IntN.{ℤ, pos, negsuc, negℤ, natAbs, _+ℤ_, _-ℤ_, _*ℤ_}
 use Rattle.cash.specs.Units.{B}
-use Rattle.cash.specs.declared.Node.{Node}
-use Rattle.cash.specs.declared.Hedge.{Hedge}
-use Rattle.cash.specs.declared.Hedge.the-variants.{Millionths, Flat, OffScale}
+use Rattle.hedges.specs.declared.Node.{Node}
+use Rattle.hedges.specs.declared.Hedge.{Hedge}
+use Rattle.hedges.specs.declared.Hedge.the-variants.{Millionths, Flat, OffScale}
 
 -- The net value W of a default leg D and a premium leg A.
 unfoldable pub netValue : ℕ → ℕ → ℕ → ℤ

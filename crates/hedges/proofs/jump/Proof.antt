@@ -1,16 +1,16 @@
--- `cash::jump` meets its contract: each change is as meant, and so is what the jump makes of them.
+-- `hedges::jump` meets its contract: each change is as meant, and so is what the jump makes of them.
 use borrow.Author.Needs.{needs}
 use Prim.Native.Nat.{_*_}
 use lib.Dec.{lit<}
 use lib.IntN.{pos, _+ℤ_, _*ℤ_}
 use mir.Syntax.{w64}
 use mir.Val.{toZ, ofZ}
 use Rattle.cash.specs.Units.{B}
-use Rattle.cash.specs.Hedges.{changeOf, jumpOf}
-use Rattle.cash.proofs.Meant.{Is, lit, nat, add, sub, mul, fits, read}
-use Rattle.cash.proofs.Jumps.{changed}
-use Rattle.cash.proofs.jump.Statement.{statement}
-use Rattle.cash.proofs.jump.Tie as tie
+use Rattle.hedges.specs.Hedges.{changeOf, jumpOf}
+use Rattle.hedges.proofs.Meant.{Is, lit, nat, add, sub, mul, fits, read}
+use Rattle.hedges.proofs.Jumps.{changed}
+use Rattle.hedges.proofs.jump.Statement.{statement}
+use Rattle.hedges.proofs.jump.Tie as tie
 
 change-requires : tie.Need-change-requires
 change-requires c κs = search needs

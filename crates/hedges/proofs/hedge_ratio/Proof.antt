@@ -1,4 +1,4 @@
--- `cash::hedge_ratio` meets its contract. The invariant: after `digits` digits the quotient and the rest are those of the tranche with so many zeros behind it, divided by the index.
+-- `hedges::hedge_ratio` meets its contract. The invariant: after `digits` digits the quotient and the rest are those of the tranche with so many zeros behind it, divided by the index.
 use borrow.Author.Needs.{needs}
 use mathlib.Core.Path.{_≡_, sym, _∙_, ap}
 use mathlib.Core.Bool.{Bool}
@@ -10,14 +10,14 @@ use lib.Signed.{quotZ, remZ}
 use mir.Syntax.{w64}
 use mir.Val.{toZ, ofZ}
 use mir.ValLaws.{toZ-ofZ}
-use Rattle.cash.specs.declared.Hedge.the-variants.{Millionths}
-use Rattle.cash.specs.Hedges.{negative, unlike, withSign, millionths, ratioOf, hedgeOf}
-use Rattle.cash.proofs.Machine.{fits-signed, back-signed, two}
-use Rattle.cash.proofs.Signs.{size-of, zero-of, times}
-use Rattle.cash.proofs.Division.{quotient-small, down, up}
-use Rattle.cash.proofs.Long.{sign, scaled, quotientAt, restAt, first-quotient, first-rest, digit, quotient-next, rest-next, flat, off-scale, answered, one-less, one-more}
-use Rattle.cash.proofs.hedge_ratio.Statement.{statement}
-use Rattle.cash.proofs.hedge_ratio.Tie as tie
+use Rattle.hedges.specs.declared.Hedge.the-variants.{Millionths}
+use Rattle.hedges.specs.Hedges.{negative, unlike, withSign, millionths, ratioOf, hedgeOf}
+use Rattle.hedges.proofs.Machine.{fits-signed, back-signed, two}
+use Rattle.hedges.proofs.Signs.{size-of, zero-of, times}
+use Rattle.hedges.proofs.Division.{quotient-small, down, up}
+use Rattle.hedges.proofs.Long.{sign, scaled, quotientAt, restAt, first-quotient, first-rest, digit, quotient-next, rest-next, flat, off-scale, answered, one-less, one-more}
+use Rattle.hedges.proofs.hedge_ratio.Statement.{statement}
+use Rattle.hedges.proofs.hedge_ratio.Tie as tie
 
 abbrev Inv-loop : tie.InvT-loop
 Inv-loop tranche index quotient₀ rest₀ digits₀ quotient rest digits =
