@@ -7,8 +7,8 @@
  *
  * - It checks what it is lent in the order of the refusals below and answers
  *   the number of the first one met, or 0. A refused call changes nothing:
- *   register, rows and output keep every byte, the walk comes back as it was
- *   given, and the figures of the answer are 0.
+ *   register, rows, image and output keep every byte, the walk comes back as it
+ *   was given, and the figures of the answer are 0.
  * - A list is lent as a pointer and the number of its entries. This the caller
  *   must see to, for no call can check it: the pointer is aligned for its
  *   entries and not NULL, even where the number is 0; the memory is there; and
@@ -26,7 +26,7 @@
  * - money: a unit is one billionth of the pool, LAVROUDEM_ONE is all of it
  * - recovery, hazards and discounts: billionths, LAVROUDEM_ONE is 1
  * - accruals and elapsed fractions: billionths of a year
- * - coupons: thousandths of a basis point a year
+ * - coupons, packed or not: thousandths of a basis point a year
  * - default leg: units
  * - premium leg: units, for a coupon of 100 percent a year
  * - net value: ten-millionths of a unit
@@ -48,13 +48,13 @@ extern "C" {
 
 /*
  * Of this header, raised when a call, a struct or a number in it changes. An
- * archive of another version is not linked: `lavroudem_version_4`, which the
+ * archive of another version is not linked: `lavroudem_version_5`, which the
  * archive of this version alone has, is named by whatever includes this header.
  * `lavroudem_version` answers the archive's version.
  */
-#define LAVROUDEM_VERSION 4
+#define LAVROUDEM_VERSION 5
 uint64_t lavroudem_version(void);
-uint64_t lavroudem_version_4(void);
+uint64_t lavroudem_version_5(void);
 
 #if defined(__has_attribute)
 #if __has_attribute(retain)
@@ -64,7 +64,7 @@ uint64_t lavroudem_version_4(void);
 #ifndef LAVROUDEM_STAYS
 #define LAVROUDEM_STAYS __attribute__((unused, used))
 #endif
-LAVROUDEM_STAYS static uint64_t (*const lavroudem_linked_version)(void) = lavroudem_version_4;
+LAVROUDEM_STAYS static uint64_t (*const lavroudem_linked_version)(void) = lavroudem_version_5;
 
 /* ---- limits */
 
@@ -76,6 +76,7 @@ LAVROUDEM_STAYS static uint64_t (*const lavroudem_linked_version)(void) = lavrou
 #define LAVROUDEM_MAX_ACCRUALS 10000000000 /* their sum */
 #define LAVROUDEM_MAX_COUPON 10000000
 #define LAVROUDEM_MAX_DECK 65536 /* bytes */
+#define LAVROUDEM_PACKED_LENGTH 4 /* bytes of a packed coupon */
 
 /* Entries of a row of the largest sheet, and of a forward row. */
 #define LAVROUDEM_MAX_ROW ((LAVROUDEM_MAX_TRANCHES + 1) * (LAVROUDEM_MAX_NAMES + 1))
@@ -121,6 +122,7 @@ enum lavroudem_refusal {
     LAVROUDEM_REFUSED_DISCOUNT = 6, /* one 0 or above 1 */
     LAVROUDEM_REFUSED_ACCRUAL = 7, /* one above 1, their sum above 10, or the last 0 */
     LAVROUDEM_REFUSED_ELAPSED = 21, /* one above the accrual of the next premium date */
+    LAVROUDEM_REFUSED_DIGIT = 30, /* a half byte of a packed coupon above 9 */
     LAVROUDEM_REFUSED_COUPON = 8, /* one above LAVROUDEM_MAX_COUPON */
     LAVROUDEM_REFUSED_WITHDRAWN = 9, /* by the register */
     LAVROUDEM_REFUSED_UNISSUED = 10, /* by the register */
@@ -147,6 +149,8 @@ static inline const char *lavroudem_word(unsigned refusal)
         "elapsed",
         "", "", "", /* 22 to 24 are none */
         "periods",
+        "", "", "", "", /* 26 to 29 are none */
+        "digit",
     };
     return refusal < sizeof words / sizeof words[0] ? words[refusal] : "";
 }
@@ -286,6 +290,11 @@ struct lavroudem_hedged {
     struct lavroudem_walk walk;
 };
 
+struct lavroudem_unpacked {
+    uint8_t refusal;
+    uint64_t coupon;
+};
+
 /* ---- the functions */
 
 /* Makes an unissued number live: writes its byte of the register. Refusals 2, 9, 17. */
@@ -362,6 +371,20 @@ uint8_t lavroudem_forward(
     const uint8_t *register_bytes, size_t register_length,
     uint64_t *row, size_t row_length,
     size_t steps);
+
+/*
+ * A packed coupon, as a ledger sends it, is an image of LAVROUDEM_PACKED_LENGTH
+ * bytes: two decimal digits a byte, the high half byte first, and the most
+ * significant byte first. So 1,234,567 is 01 23 45 67. Each coupon up to
+ * LAVROUDEM_MAX_COUPON has one image, and its image alone is read as it.
+ * packed.c reads and writes some. Neither call needs a sheet or a register.
+ */
+
+/* Answers the coupon of an image. Writes nothing. Refusals 2, 30 and 8. */
+struct lavroudem_unpacked lavroudem_read_packed(const uint8_t *image, size_t image_length);
+
+/* Writes the image of a coupon, all its bytes. Refusals 2 and 8. */
+uint8_t lavroudem_write_packed(uint8_t *image, size_t image_length, uint64_t coupon);
 
 /* The bytes that must be lent for the listing of a deck of so many bytes. */
 size_t lavroudem_deck_room(size_t deck_length);
@@ -442,6 +465,10 @@ LAVROUDEM_SIZE(lavroudem_hedged, 32);
 LAVROUDEM_OFFSET(lavroudem_hedged, refusal, 0);
 LAVROUDEM_OFFSET(lavroudem_hedged, ratio, 8);
 LAVROUDEM_OFFSET(lavroudem_hedged, walk, 16);
+
+LAVROUDEM_SIZE(lavroudem_unpacked, 16);
+LAVROUDEM_OFFSET(lavroudem_unpacked, refusal, 0);
+LAVROUDEM_OFFSET(lavroudem_unpacked, coupon, 8);
 
 #ifdef __cplusplus
 }

@@ -5,6 +5,7 @@
 //! model. Refusals are those of the model's own checks where they cost
 //! nothing, and loops of its own where they do.
 
+use crate::packed::IMAGE_LENGTH;
 use crate::refusal::{refuse_if, Refusal};
 use crate::register;
 use crate::sheet::{self, Sheet, MAX_NAMES, MAX_STEPS, MAX_TRANCHES};
@@ -109,6 +110,32 @@ pub fn forward(
     row[0] = B;
     for step in 1..=steps {
         push(row, hazards_into(sheet, step));
+    }
+    Ok(())
+}
+
+/// The coupon of a packed image.
+pub fn read_packed(image: &[u8]) -> Result<u64, Refusal> {
+    refuse_if(image.len() != IMAGE_LENGTH, Refusal::Length)?;
+    let is_bad = |&byte: &u8| byte >> 4 > 9 || byte & 15 > 9;
+    refuse_if(image.iter().any(is_bad), Refusal::Digit)?;
+    let digits = |byte: u8| 10 * u64::from(byte >> 4) + u64::from(byte & 15);
+    let coupon = image
+        .iter()
+        .fold(0, |coupon, &byte| 100 * coupon + digits(byte));
+    refuse_if(coupon > MAX_COUPON, Refusal::Coupon)?;
+    Ok(coupon)
+}
+
+/// Writes the packed image of a coupon.
+pub fn write_packed(image: &mut [u8], coupon: u64) -> Result<(), Refusal> {
+    refuse_if(image.len() != IMAGE_LENGTH, Refusal::Length)?;
+    refuse_if(coupon > MAX_COUPON, Refusal::Coupon)?;
+    let mut rest = coupon;
+    for byte in image.iter_mut().rev() {
+        let digits = (rest % 100) as u8;
+        *byte = digits / 10 << 4 | digits % 10;
+        rest /= 100;
     }
     Ok(())
 }

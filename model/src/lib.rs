@@ -8,6 +8,7 @@
 //! - [`sheet`]: what the desk brings, and the checks on it
 //! - [`cash`]: rounding, losses, outstanding notional, payments
 //! - [`tree`]: rolling rows back, net values, hedge ratios, default counts
+//! - [`packed`]: coupons as the ledger sends them, in packed decimal
 //! - [`register`]: which sheet numbers are live, and what a power loss leaves
 //! - [`walk`]: the calls with everything lent to them and all their refusals
 //! - [`commands`]: the commands of a deck, by byte and by word
@@ -34,6 +35,7 @@ pub mod engine;
 pub mod exact;
 pub mod fast;
 pub mod natural;
+pub mod packed;
 pub mod random;
 pub mod refusal;
 pub mod register;

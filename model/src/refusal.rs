@@ -30,11 +30,13 @@ pub enum Refusal {
     Elapsed = 21,
     /// Checked before 5.
     Periods = 25,
+    /// Of a coupon in packed decimal alone, checked before 8.
+    Digit = 30,
 }
 
 impl Refusal {
-    /// In the order of their numbers: 1 to 21, then 25.
-    pub const ALL: [Refusal; 22] = [
+    /// In the order of their numbers: 1 to 21, then 25 and 30.
+    pub const ALL: [Refusal; 23] = [
         Refusal::Pool,
         Refusal::Length,
         Refusal::Recovery,
@@ -57,6 +59,7 @@ impl Refusal {
         Refusal::TooMany,
         Refusal::Elapsed,
         Refusal::Periods,
+        Refusal::Digit,
     ];
 
     pub fn number(self) -> u8 {
@@ -95,6 +98,7 @@ impl Refusal {
             Refusal::TooMany => "too many",
             Refusal::Elapsed => "elapsed",
             Refusal::Periods => "periods",
+            Refusal::Digit => "digit",
         }
     }
 }

@@ -6,6 +6,7 @@
 //! accepted. `tests/trials.rs` holds that no number can be moved unseen.
 
 use crate::deck::{Calls, CALLS};
+use crate::packed;
 use crate::refusal::Refusal;
 use crate::register::{self, LIVE, UNISSUED, WITHDRAWN};
 use crate::sheet::Sheet;
@@ -567,7 +568,8 @@ pub fn listing() -> String {
     listing_by(&CALLS)
 }
 
-/// The same by other calls, such as the engine's.
+/// The same by other calls, such as the engine's. Those that no deck makes
+/// stay the model's.
 pub fn listing_by(calls: &Calls) -> String {
     let mut text = String::new();
     for edge in edges() {
@@ -578,6 +580,7 @@ pub fn listing_by(calls: &Calls) -> String {
     }
     text.push_str(&register_lines(calls));
     text.push_str(&cut_lines());
+    text.push_str(&packed_lines(packed::read, packed::write));
     text
 }
 
@@ -777,6 +780,75 @@ fn cut_lines() -> String {
     }
     for found in [0xAD, UNISSUED, LIVE, 0x21, WITHDRAWN] {
         line(UNISSUED, LIVE, found);
+    }
+    text
+}
+
+/// Images of four bytes: values at the ends and at the limit, then halves that
+/// are no digit, at each place and beside a value over the limit.
+const IMAGES: [[u8; 4]; 14] = [
+    [0x00, 0x00, 0x00, 0x00],
+    [0x01, 0x00, 0x00, 0x00],
+    [0x01, 0x23, 0x45, 0x67],
+    [0x09, 0x99, 0x99, 0x99],
+    [0x10, 0x00, 0x00, 0x00],
+    [0x10, 0x00, 0x00, 0x01],
+    [0x99, 0x99, 0x99, 0x99],
+    [0x10, 0x00, 0x00, 0x0A],
+    [0x10, 0x00, 0x00, 0xA0],
+    [0x9A, 0x00, 0x00, 0x00],
+    [0xA0, 0x00, 0x00, 0x00],
+    [0x09, 0x0A, 0x00, 0x00],
+    [0x09, 0x00, 0xA0, 0x00],
+    [0xFF, 0xFF, 0xFF, 0xFF],
+];
+
+/// Images of other lengths, the last two with no digit.
+const ODD_IMAGES: [&[u8]; 5] = [
+    &[0x01, 0x00, 0x00],
+    &[0x01, 0x00, 0x00, 0x00, 0x00],
+    &[],
+    &[0xAA; 3],
+    &[0xAA; 5],
+];
+
+/// Coupons, and the length of the buffer that each is to be written in.
+const WRITINGS: [(u64, usize); 12] = [
+    (0, 4),
+    (1, 4),
+    (1_234_567, 4),
+    (9_999_999, 4),
+    (10_000_000, 4),
+    (10_000_001, 4),
+    (u64::MAX, 4),
+    (1, 3),
+    (1, 5),
+    (10_000_001, 3),
+    (10_000_001, 5),
+    (1, 0),
+];
+
+/// 2, 30 and 8: packed coupons read, and written with the bytes that each
+/// leaves.
+pub fn packed_lines(
+    read: fn(&[u8]) -> Result<u64, Refusal>,
+    write: fn(&mut [u8], u64) -> Result<(), Refusal>,
+) -> String {
+    let listed = |bytes: &[u8]| -> String {
+        let bytes = bytes.iter().map(|byte| format!(" {byte}"));
+        bytes.collect()
+    };
+    let mut text = String::new();
+    let images = IMAGES.iter().map(|image| &image[..]);
+    for image in images.chain(ODD_IMAGES) {
+        let answer = field("read", read(image).map(|coupon| vec![coupon.into()]));
+        text.push_str(&format!("packed{}{answer}\n", listed(image)));
+    }
+    for (coupon, length) in WRITINGS {
+        let mut buffer = vec![0xFF; length];
+        let answer = field("write", write(&mut buffer, coupon).map(|()| vec![]));
+        let left = listed(&buffer);
+        text.push_str(&format!("coupon {coupon} lent {length}{answer}{left}\n"));
     }
     text
 }

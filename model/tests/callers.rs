@@ -1,6 +1,9 @@
 //! What `callers/c/unequal.c`, `callers/c/periods.c` and
-//! `callers/c/elapsed.c` print is what the model says of their sheets.
+//! `callers/c/elapsed.c` print is what the model says of their sheets, and
+//! what `callers/c/packed.c` prints is what it says of those coupons.
 
+use lavroudem_model::packed;
+use lavroudem_model::refusal::Refusal;
 use lavroudem_model::sheet::{check, Sheet};
 use lavroudem_model::tree::{
     default_leg, distribution, hedge_ratio, net_value, premium_leg, roll_back, Rows,
@@ -11,6 +14,7 @@ use std::fmt::Write;
 const UNEQUAL: &str = include_str!("../../callers/unequal.stdout");
 const PERIODS: &str = include_str!("../../callers/periods.stdout");
 const ELAPSED: &str = include_str!("../../callers/elapsed.stdout");
+const PACKED: &str = include_str!("../../callers/packed.stdout");
 
 /// No two of names, steps and tranches + 1 are the same.
 fn unequal_sheet() -> Sheet {
@@ -183,4 +187,42 @@ fn the_example_of_elapsed_fractions_prints_the_figures_of_the_model() {
     .unwrap();
     text += &premiums_to_root(&earning_sheet([0; 3]));
     assert_eq!(ELAPSED, text);
+}
+
+/// Bytes as an example shows them.
+fn shown(image: &[u8]) -> String {
+    let pairs: Vec<String> = image.iter().map(|byte| format!("{byte:02X}")).collect();
+    pairs.join(" ")
+}
+
+fn told(refusal: Refusal) -> String {
+    format!("refusal {}, {}", refusal.number(), refusal.word())
+}
+
+#[test]
+fn packed_coupons() {
+    let ledger: [&[u8]; 7] = [
+        &[0x01, 0x00, 0x00, 0x00],
+        &[0x00, 0x50, 0x00, 0x00],
+        &[0x10, 0x00, 0x00, 0x00],
+        &[0x00, 0x0A, 0x00, 0x00],
+        &[0x10, 0x00, 0x00, 0x01],
+        &[0x99, 0x99, 0x99, 0x9A],
+        &[0x01, 0x00, 0x00],
+    ];
+    let mut lines = String::new();
+    for image in ledger {
+        let read = packed::read(image).map_or_else(told, |coupon| format!("coupon {coupon}"));
+        writeln!(lines, "{}: {read}", shown(image)).unwrap();
+    }
+    for place in [0, 2] {
+        let mut image = ledger[place].to_vec();
+        let coupon = packed::read(&image).unwrap() + 12_500;
+        let stays = match packed::write(&mut image, coupon) {
+            Ok(()) => String::new(),
+            Err(refusal) => format!("{}; the image stays ", told(refusal)),
+        };
+        writeln!(lines, "coupon {coupon}: {stays}{}", shown(&image)).unwrap();
+    }
+    assert_eq!(lines, PACKED);
 }

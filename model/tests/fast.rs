@@ -4,6 +4,7 @@ mod common;
 
 use common::{breaks, plain_sheet, Random};
 use lavroudem_model::fast;
+use lavroudem_model::packed;
 use lavroudem_model::register;
 use lavroudem_model::sheet::Sheet;
 use lavroudem_model::tree::premium_ceiling;
@@ -112,4 +113,35 @@ fn damaged_sheets_are_refused_alike() {
         assert!(model.is_err());
         assert_eq!(fast::forward(&sheet, &register, 1, &mut row), model);
     }
+}
+
+/// Every coupon up to one over the limit, and any bytes of any length.
+#[test]
+fn packed_coupons() {
+    for coupon in 0..=10_000_001 {
+        let (mut image, mut fast_image) = ([0xFF; 4], [0xFF; 4]);
+        let written = packed::write(&mut image, coupon);
+        assert_eq!(fast::write_packed(&mut fast_image, coupon), written);
+        assert_eq!(fast_image, image);
+        assert_eq!(fast::read_packed(&image), packed::read(&image));
+    }
+    let mut random = Random::new(0x9AC4);
+    let mut refusals = BTreeSet::new();
+    for _ in 0..100_000 {
+        let bytes: Vec<u8> = (0..random.below(7))
+            .map(|_| random.below(256) as u8)
+            .collect();
+        let few: Vec<u8> = bytes.iter().map(|byte| byte % 170).collect();
+        for image in [bytes, few] {
+            let read = packed::read(&image);
+            assert_eq!(fast::read_packed(&image), read);
+            refusals.extend(read.err().map(|refusal| refusal.number()));
+            let mut image = image;
+            let mut fast_image = image.clone();
+            let written = packed::write(&mut image, 123_456);
+            assert_eq!(fast::write_packed(&mut fast_image, 123_456), written);
+            assert_eq!(fast_image, image);
+        }
+    }
+    assert_eq!(refusals, BTreeSet::from([2, 8, 30]));
 }

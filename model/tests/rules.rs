@@ -11,12 +11,14 @@ use common::edges::walked;
 use common::plain_sheet;
 use lavroudem_model::cash::{outstanding, pool_loss};
 use lavroudem_model::commands::COMMANDS;
+use lavroudem_model::packed::IMAGE_LENGTH;
 use lavroudem_model::refusal::Refusal;
 use lavroudem_model::register::{self, cut_issue, cut_withdrawal, status, Status};
 use lavroudem_model::sheet::{B, MAX_ACCRUAL_SUM, MAX_NAMES, MAX_STEPS, MAX_TRANCHES};
 use page::formulas::*;
 use page::limits::*;
 use page::orders::*;
+use page::packed::*;
 use page::worked::*;
 use page::{cells, ensure, named, same, says, size, spans, table, whole, Found};
 use std::fs;
@@ -53,6 +55,7 @@ checks! {
     links_lead_somewhere;
     lengths_are_the_models;
     register_is_the_models;
+    packed_coupons_are_the_models;
     amortisation_is_the_models;
     rooms_are_the_engines;
     worked_arithmetic_is_right;
@@ -90,17 +93,20 @@ fn refusals_are_the_models(page: &str) -> Found {
     numbers_in_between_are_free(page)
 }
 
-/// The numbers that no refusal has, and the two that are out of turn.
+/// The numbers that no refusal has, and those that are out of turn.
 fn numbers_in_between_are_free(page: &str) -> Found {
-    let last = Refusal::Periods.number();
-    let taken = |number: &u8| Refusal::ALL.iter().any(|known| known.number() == *number);
-    let free: Vec<u8> = (1..=last).filter(|number| !taken(number)).collect();
-    let (first, end) = (free[0], free[free.len() - 1]);
-    same(free.len(), usize::from(end - first + 1), "a gap")?;
-    let [before, elapsed, after] =
-        [Refusal::Hazard, Refusal::Elapsed, Refusal::Accrual].map(Refusal::number);
-    let free = format!("The numbers {first} to {end} stand for nothing;");
-    let places = format!("{last} comes before {before}, and {elapsed} after {after}:");
+    let numbers = Refusal::ALL.map(Refusal::number);
+    let gaps = numbers.windows(2).filter(|pair| pair[0] + 1 < pair[1]);
+    let gaps = gaps.map(|pair| format!("{} to {}", pair[0] + 1, pair[1] - 1));
+    let gaps: Vec<String> = gaps.collect();
+    let free = format!("The numbers {} stand for nothing;", gaps.join(" and "));
+    let [periods, elapsed, digit] =
+        [Refusal::Periods, Refusal::Elapsed, Refusal::Digit].map(Refusal::number);
+    let [hazard, accrual, coupon] =
+        [Refusal::Hazard, Refusal::Accrual, Refusal::Coupon].map(Refusal::number);
+    let places = format!(
+        "{periods} comes before {hazard}, {elapsed} after {accrual}, and {digit} before {coupon}:"
+    );
     says(page, &format!("{free} {places}"))
 }
 
@@ -220,6 +226,7 @@ const PHRASES: &[&str] = &[
     "| a back would go below position 0, or a forward above m |",
     "| J of the index is 0 |",
     "| the first start is not 1, starts do not rise strictly, or one is above m |\n",
+    "| a half byte of a packed coupon is above 9 |",
     "| by size J of the tranche is 1,000,000 times J of the index, or more |",
     "**Sheet commands**, 01 to 05 and 0D, enter",
     "A deck that enters no elapsed fraction has m of them, all 0;",
@@ -274,6 +281,7 @@ fn lengths_are_the_models(page: &str) -> Found {
         desk.register.len(),
         desk.default_row.len(),
         desk.forward_row.len(),
+        IMAGE_LENGTH,
     ];
     same(rows.len(), lengths.len(), "lengths")?;
     for (row, length) in rows.iter().zip(lengths).skip(1) {

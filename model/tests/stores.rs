@@ -2,7 +2,8 @@
 //! A contract sees a register at entry and at exit; that a refused call stores
 //! nothing in between is seen in the code. One function stores, one byte, once;
 //! issue and withdraw call it only where they accept; every other function that
-//! may write a register hands it on.
+//! may write a register hands it on. The image of a packed coupon is held to the
+//! same.
 //!
 //! Nor does a contract say in which form a figure is worked out: that a
 //! tranche's loss has three cases, and stands in one function. Or how often:
@@ -372,17 +373,62 @@ fn the_period_of_a_step_is_found_once() {
     assert_eq!(finders, PERIOD_FINDERS);
 }
 
+/// The functions that may write the image of a packed coupon, and how: one
+/// stores, after another has judged that it may.
+const IMAGE_WRITERS: [(&str, &str); 3] = [
+    (
+        "export/src/lib.rt: lavroudem_write_packed",
+        "packed::writing_number(packed::write(image, coupon))",
+    ),
+    (
+        "packed/src/lib.rt: store_image",
+        "image[0] = digit_pair(coupon / 1_000_000);
+         image[1] = digit_pair(coupon / 10_000 % 100);
+         image[2] = digit_pair(coupon / 100 % 100);
+         image[3] = digit_pair(coupon % 100);",
+    ),
+    (
+        "packed/src/lib.rt: write",
+        "let answer = judge_write(image, coupon);
+         match answer {
+             Writing::Written => store_image(image, coupon),
+             _ => {}
+         }
+         answer",
+    ),
+];
+
+/// Their judge. It may only read.
+const IMAGE_JUDGE: &str = "packed/src/lib.rt: judge_write";
+
+#[test]
+fn a_refused_coupon_stores_nothing() {
+    let functions = functions();
+    let writes = |it: &&Function| it.kind_of("image") == Some("& mut [ u8 ]");
+    let writers: Vec<&str> = functions
+        .iter()
+        .filter(writes)
+        .map(|it| it.place.as_str())
+        .collect();
+    assert_eq!(writers, IMAGE_WRITERS.map(|(place, _)| place));
+    for (place, body) in IMAGE_WRITERS {
+        assert_eq!(function(&functions, place).body, words(body), "{place}");
+    }
+    let judge = function(&functions, IMAGE_JUDGE);
+    assert_eq!(judge.kind_of("image"), Some("& [ u8 ]"));
+}
+
 /// What a program's input is read into.
 const READS: (&str, &str) = ("listing/src/main.rt: read_all", "input");
 
-/// A writable slice of bytes is a register or the listing's room, and called
-/// so, but for what is read into.
+/// A writable slice of bytes is a register, the listing's room or the image of
+/// a packed coupon, and called so, but for what is read into.
 #[test]
-fn writable_bytes_are_called_register_or_out() {
+fn writable_bytes_are_called_register_out_or_image() {
     for function in functions() {
         for (name, kind) in &function.parameters {
             let bytes = kind.contains("mut") && kind.contains("u8");
-            let called = ["register", "out"].contains(&name.as_str())
+            let called = ["register", "out", "image"].contains(&name.as_str())
                 || (function.place.as_str(), name.as_str()) == READS;
             let plain = called && kind == "& mut [ u8 ]";
             assert!(!bytes || plain, "{}: {name}: {kind}", function.place);

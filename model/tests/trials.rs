@@ -38,7 +38,7 @@ fn is_tried(edge: &Edge, value: u64) -> bool {
 /// The numbers that the calls of a line answer.
 fn numbers_answered(line: &str) -> Vec<&str> {
     let calls = [
-        "open", "back", "value", "ratio", "forward", "issue", "withdraw",
+        "open", "back", "value", "ratio", "forward", "issue", "withdraw", "read", "write",
     ];
     let words: Vec<&str> = line.split(' ').collect();
     let answered = words.windows(2).filter(|pair| calls.contains(&pair[0]));
@@ -213,6 +213,47 @@ left 255 165 255 1
 left 255 165 165 1
 left 255 165 33 0
 left 255 165 0 0
+";
+    let listing = listing();
+    let (before_packed, _) = listing.split_once("packed ").unwrap();
+    assert!(before_packed.ends_with(expected));
+}
+
+/// Packed coupons by their bytes, in decimal as all numbers of the trials.
+#[test]
+fn packed_lines_are_what_they_should_be() {
+    let expected = "
+packed 0 0 0 0 read 0 0
+packed 1 0 0 0 read 0 1000000
+packed 1 35 69 103 read 0 1234567
+packed 9 153 153 153 read 0 9999999
+packed 16 0 0 0 read 0 10000000
+packed 16 0 0 1 read 8
+packed 153 153 153 153 read 8
+packed 16 0 0 10 read 30
+packed 16 0 0 160 read 30
+packed 154 0 0 0 read 30
+packed 160 0 0 0 read 30
+packed 9 10 0 0 read 30
+packed 9 0 160 0 read 30
+packed 255 255 255 255 read 30
+packed 1 0 0 read 2
+packed 1 0 0 0 0 read 2
+packed read 2
+packed 170 170 170 read 2
+packed 170 170 170 170 170 read 2
+coupon 0 lent 4 write 0 0 0 0 0
+coupon 1 lent 4 write 0 0 0 0 1
+coupon 1234567 lent 4 write 0 1 35 69 103
+coupon 9999999 lent 4 write 0 9 153 153 153
+coupon 10000000 lent 4 write 0 16 0 0 0
+coupon 10000001 lent 4 write 8 255 255 255 255
+coupon 18446744073709551615 lent 4 write 8 255 255 255 255
+coupon 1 lent 3 write 2 255 255 255
+coupon 1 lent 5 write 2 255 255 255 255 255
+coupon 10000001 lent 3 write 2 255 255 255
+coupon 10000001 lent 5 write 2 255 255 255 255 255
+coupon 1 lent 0 write 2
 ";
     assert!(listing().ends_with(expected));
 }

@@ -2,6 +2,7 @@
 //!
 //! - [`input`]: how much of a file is read
 //! - [`text`]: a deck as text, and back
+//! - [`packed`]: a coupon of a text in packed decimal
 //! - [`form`]: text told from a deck, and what is nearly text
 //! - [`course`]: a deck command by command, and where it stops
 //! - [`listing`]: a listing held to its deck, before a line of it is shown
@@ -21,6 +22,7 @@ pub mod input;
 pub mod listing;
 pub mod lock;
 pub mod output;
+pub mod packed;
 pub mod quote;
 pub mod table;
 pub mod text;

@@ -134,12 +134,13 @@ fn number(field: &str) -> Option<i128> {
     (number.to_string() == field).then_some(i128::from(number))
 }
 
-/// Those of a deck's calls; 18 to 20 stop the deck, and its one period is
-/// never at fault.
+/// Those of a deck's calls; 18 to 20 stop the deck, its one period is never at
+/// fault, and its coupons are not packed.
 fn refusal(number: i128) -> Result<Refusal, String> {
     let known = Refusal::ALL
         .into_iter()
-        .filter(|&refusal| !refusal.stops_a_deck() && refusal != Refusal::Periods)
+        .filter(|refusal| !refusal.stops_a_deck())
+        .filter(|refusal| !matches!(refusal, Refusal::Periods | Refusal::Digit))
         .find(|refusal| i128::from(refusal.number()) == number);
     known.ok_or_else(|| format!("no call of a deck is refused {number}"))
 }

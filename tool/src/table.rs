@@ -276,6 +276,7 @@ fn explanation(refusal: Refusal) -> &'static str {
         Refusal::TooMany => "a second pool, a list too long, or a deck above 65536 bytes",
         Refusal::Elapsed => "an elapsed fraction is above the accrual of the next premium date",
         Refusal::Periods => "not met by a deck, whose one period starts at step 1",
+        Refusal::Digit => "not met by a deck, whose coupons are not packed",
     }
 }
 

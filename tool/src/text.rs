@@ -9,14 +9,19 @@
 //! cut short on, a deck is read no further. So every deck has a text, and the
 //! text gives the same deck again.
 //!
-//! Only what a deck cannot hold is a mistake here. Limits of the sheet are
-//! the engine's to refuse, and so is a deck that is too long: of that the
+//! A coupon may come as the ledger sends it, `coupon packed 01000000`. The
+//! deck has its number alone, so the disassembler writes that.
+//!
+//! Only what a deck cannot hold is a mistake here, and with it a packed coupon
+//! that the ledger's reading refuses: that is no coupon. Limits of the sheet
+//! are the engine's to refuse, and so is a deck that is too long: of that the
 //! deck is made up to one byte more than the longest, and no further.
 
 use crate::form::{as_text, looks_like_text, nearly_text, without_mark, Form};
 use crate::input::MAX_TEXT;
+use crate::packed::{self, PACKED};
 use crate::quote;
-use lavroudem_model::commands::{decode, Command, COMMANDS};
+use lavroudem_model::commands::{decode, Command, COMMANDS, COUPON};
 use lavroudem_model::deck::MAX_DECK;
 use std::fmt;
 
@@ -154,7 +159,11 @@ fn assemble_line(line: &str) -> Result<(Vec<u8>, usize), String> {
         [BYTES, pairs @ ..] => Ok((hexadecimal(pairs)?, times)),
         [word, operands @ ..] => {
             let command = by_word(word).ok_or_else(|| unknown(word))?;
-            Ok((command.encode(&numbers(command, operands)?), times))
+            let numbers = match operands {
+                [PACKED, words @ ..] if command.byte == COUPON => vec![packed::coupon(words)?],
+                _ => numbers(command, operands)?,
+            };
+            Ok((command.encode(&numbers), times))
         }
     }
 }
@@ -220,7 +229,12 @@ fn numbers(command: &Command, words: &[&str]) -> Result<Vec<u64>, String> {
     if words.len() != command.operands.len() {
         let names = command.operands.iter().map(|&(name, _)| format!(" {name}"));
         let form = command.word.to_string() + &names.collect::<String>();
-        return Err(format!("write `{form}`; operands found: {}", words.len()));
+        let packed = match command.byte {
+            COUPON => format!(" or `{} {PACKED} digits`", command.word),
+            _ => String::new(),
+        };
+        let found = words.len();
+        return Err(format!("write `{form}`{packed}; operands found: {found}"));
     }
     let operands = command.operands.iter().zip(words);
     operands

@@ -8,7 +8,7 @@ use std::fmt::Write;
 use std::fs;
 use std::path::{Path, PathBuf};
 
-const NAMES: [&str; 4] = ["worked", "five-year", "elapsed", "refusals"];
+const NAMES: [&str; 5] = ["worked", "five-year", "elapsed", "ledger", "refusals"];
 
 fn root() -> PathBuf {
     Path::new(env!("CARGO_MANIFEST_DIR")).join("..")
@@ -100,6 +100,21 @@ fn without_elapsed_fractions_it_is_as_the_comments_tell() {
     let with: Vec<String> = figures(&stored("elapsed", "listing"));
     let moved: Vec<bool> = with.iter().zip(&without).map(|(a, b)| a != b).collect();
     assert_eq!(moved, [true, true, true, false]);
+}
+
+/// The comments tell each packed coupon as a plain line.
+#[test]
+fn packed_coupons_are_those_of_the_comments() {
+    let text = stored("ledger", "txt");
+    let plain = |line| match str::split_once(line, "# as ") {
+        Some((_, words)) => words.split(':').next().unwrap(),
+        None => line,
+    };
+    let told: Vec<&str> = text.lines().map(plain).collect();
+    let told = told.join("\n");
+    assert_eq!(text.matches("\ncoupon packed ").count(), 3);
+    assert!(!told.contains("\ncoupon packed "), "{told}");
+    assert_eq!(assemble(&told), Ok(deck("ledger")));
 }
 
 /// The sheet of `five-year` by the formulas of `examples/README.md`.

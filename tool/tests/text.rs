@@ -185,10 +185,130 @@ fn mistakes_have_line_and_reason() {
 
 #[test]
 fn unknown_words_are_told_the_known_ones() {
-    for word in ["values", "Open", "open,", "пул"] {
+    for word in ["values", "Open", "open,", "packed", "пул"] {
         let mistake = assemble(word).unwrap_err();
         let start = format!("no command `{word}`; there are pool, cut, hazard, step, ");
         assert!(mistake.reason.starts_with(&start), "{mistake}");
+    }
+}
+
+// ---- packed coupons
+
+#[test]
+fn packed_coupons_give_the_deck_of_their_numbers() {
+    let deck = vec![0x05, 0x40, 0x42, 0x0F, 0x00];
+    assert_eq!(assemble("coupon packed 01000000"), Ok(deck));
+    for (packed, plain) in [
+        ("coupon packed 00000000", "coupon 0"),
+        ("coupon packed 00000001", "coupon 1"),
+        ("coupon packed 01234567", "coupon 1234567"),
+        ("coupon\tpacked 09999999# ledger", "coupon 9999999"),
+        ("coupon packed 10000000", "coupon 10000000"),
+        ("coupon packed 00025000 x 3", "coupon 25000 x 3"),
+        (
+            "open\ncoupon packed 00500000\nopen",
+            "open\ncoupon 500000\nopen",
+        ),
+    ] {
+        let deck = assemble(packed).unwrap();
+        assert_eq!(assemble(plain).as_ref(), Ok(&deck), "{packed}");
+        assert_eq!(disassemble(&deck), format!("{plain}\n"));
+    }
+}
+
+#[test]
+fn random_packed_coupons_give_the_deck_of_their_numbers() {
+    let mut random = Random::new(0x7E87_0004);
+    for _ in 0..20_000 {
+        let coupon = random.with_edges(0, 10_000_000);
+        let packed = assemble(&format!("coupon packed {coupon:08}"));
+        assert_eq!(packed, assemble(&format!("coupon {coupon}")));
+        assert!(packed.is_ok(), "{coupon}");
+    }
+}
+
+/// Behind an accepted line, so that the place is that of the mistake.
+fn told_of_packed(line: &str) -> String {
+    let text = format!("coupon packed 01000000\n{line}\nnonsense\n");
+    assemble(&text).unwrap_err().to_string()
+}
+
+#[test]
+fn packed_coupons_have_a_form() {
+    for (operands, found) in [
+        ("", 0),
+        ("x 3", 0),
+        ("01 00 00 00", 4),
+        ("packed 01000000", 2),
+    ] {
+        let form = format!("write `coupon packed digits`; operands found: {found}");
+        let told = told_of_packed(&format!("coupon packed {operands}"));
+        assert_eq!(told, format!("line 2: {form}"), "{operands}");
+    }
+    for word in [
+        "0100000g",
+        "0x01000000",
+        "+1000000",
+        "1,000,000",
+        "g",
+        "٠١٠٠٠٠٠٠",
+    ] {
+        let reason = format!("packed coupon `{word}` is not in hexadecimal digits");
+        let told = told_of_packed(&format!("coupon packed {word}"));
+        assert_eq!(told, format!("line 2: {reason}"));
+    }
+}
+
+#[test]
+fn nothing_but_a_coupon_is_packed() {
+    let rate = "write `coupon rate` or `coupon packed digits`; operands found: 2";
+    let point = "write `cut point`; operands found: 2";
+    let discount = "discount `packed` is not a whole number";
+    let fraction = "fraction `packed` is not a whole number";
+    for (line, reason) in [
+        ("coupon 1 packed", rate),
+        ("coupon Packed 01000000", rate),
+        ("cut packed 01000000", point),
+        ("step packed 01000000", discount),
+        ("elapsed packed", fraction),
+    ] {
+        assert_eq!(told_of_packed(line), format!("line 2: {reason}"), "{line}");
+    }
+}
+
+/// 2 before 30, and 30 before 8.
+#[test]
+fn refused_packed_coupons_are_told() {
+    for (digits, reason) in [
+        ("0", "2 (length): 1 of 8 digits"),
+        ("010000", "2 (length): 6 of 8 digits"),
+        ("0100000", "2 (length): 7 of 8 digits"),
+        ("010000000", "2 (length): 9 of 8 digits"),
+        ("0100000000", "2 (length): 10 of 8 digits"),
+        ("aaaaaa", "2 (length): 6 of 8 digits"),
+        ("AAAAAAA", "2 (length): 7 of 8 digits"),
+        ("9999999999", "2 (length): 10 of 8 digits"),
+        ("0100000A", "30 (digit): half byte 8 is A, above 9"),
+        ("0b00c000", "30 (digit): half byte 2 is b, above 9"),
+        ("F0000000", "30 (digit): half byte 1 is F, above 9"),
+        ("9999999f", "30 (digit): half byte 8 is f, above 9"),
+        ("10000001", "8 (coupon): above 10000000"),
+        ("99999999", "8 (coupon): above 10000000"),
+    ] {
+        for repeat in ["", " x 2"] {
+            let told = told_of_packed(&format!("coupon packed {digits}{repeat}"));
+            let reason = format!("packed coupon `{digits}` is refused {reason}");
+            assert_eq!(told, format!("line 2: {reason}"));
+        }
+    }
+}
+
+/// A number that is over the limit is the engine's to refuse.
+#[test]
+fn plain_coupons_over_the_limit_are_no_mistake() {
+    for coupon in ["10000001", "99999999"] {
+        assert_eq!(assemble(&format!("coupon {coupon}")).unwrap().len(), 5);
+        assert!(assemble(&format!("coupon packed {coupon}")).is_err());
     }
 }
 
@@ -366,6 +486,8 @@ fn words_are_cut_and_escaped_in_errors() {
         format!("issue {long}"),
         format!("issue {}", "9".repeat(1_000_000)),
         format!("bytes {long}"),
+        format!("coupon packed {long}"),
+        format!("coupon packed {}", "9".repeat(1_000_000)),
     ] {
         let mistake = assemble(&line).unwrap_err().to_string();
         assert!(mistake.len() < 200 && mistake.contains("..."), "{mistake}");

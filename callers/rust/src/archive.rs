@@ -66,6 +66,12 @@ struct Hedged {
     walk: Walk,
 }
 
+#[repr(C)]
+struct Unpacked {
+    refusal: u8,
+    coupon: u64,
+}
+
 extern "C" {
     fn lavroudem_version() -> u64;
     fn lavroudem_issue(register: *mut u8, register_length: usize, number: u8) -> u8;
@@ -133,6 +139,8 @@ extern "C" {
         row_length: usize,
         steps: usize,
     ) -> u8;
+    fn lavroudem_read_packed(image: *const u8, image_length: usize) -> Unpacked;
+    fn lavroudem_write_packed(image: *mut u8, image_length: usize, coupon: u64) -> u8;
     fn lavroudem_deck_room(deck_length: usize) -> usize;
     fn lavroudem_run_deck(
         deck: *const u8,
@@ -353,6 +361,48 @@ pub fn forward(
             steps,
         )
     };
+    answer(refusal, ())
+}
+
+/// The coupon of a packed image, in thousandths of a basis point. An image is
+/// [`PACKED_LENGTH`](crate::PACKED_LENGTH) bytes of two decimal digits each,
+/// the high half byte first, and the most significant byte first. Refusals 2,
+/// 30 and 8.
+///
+/// ```
+/// use lavroudem::{read_packed, Refusal};
+///
+/// assert_eq!(read_packed(&[0x01, 0x00, 0x00, 0x00]), Ok(1_000_000));
+/// assert_eq!(read_packed(&[0x01, 0x00, 0x0A, 0x00]), Err(Refusal::Digit));
+/// // 10,000,001
+/// assert_eq!(read_packed(&[0x10, 0x00, 0x00, 0x01]), Err(Refusal::Coupon));
+/// ```
+#[inline]
+pub fn read_packed(image: &[u8]) -> Result<u64, Refusal> {
+    same_version();
+    // SAFETY: pointer and length are those of one slice, which is read.
+    let unpacked = unsafe { lavroudem_read_packed(image.as_ptr(), image.len()) };
+    answer(unpacked.refusal, unpacked.coupon)
+}
+
+/// Writes the image that [`read_packed`] reads as this coupon, which has no
+/// other. Refusals 2 and 8; then the image stays as it was.
+///
+/// ```
+/// use lavroudem::{write_packed, Refusal};
+///
+/// let mut image = [0; lavroudem::PACKED_LENGTH];
+/// write_packed(&mut image, 1_000_000)?;
+/// assert_eq!(image, [0x01, 0x00, 0x00, 0x00]);
+/// assert_eq!(write_packed(&mut image, 10_000_001), Err(Refusal::Coupon));
+/// assert_eq!(image, [0x01, 0x00, 0x00, 0x00]);
+/// # Ok::<(), Refusal>(())
+/// ```
+#[inline]
+pub fn write_packed(image: &mut [u8], coupon: u64) -> Result<(), Refusal> {
+    same_version();
+    // SAFETY: pointer and length are those of one slice, lent to be written.
+    let refusal = unsafe { lavroudem_write_packed(image.as_mut_ptr(), image.len(), coupon) };
     answer(refusal, ())
 }
 

@@ -41,8 +41,9 @@
 //!
 //! A [`Sheet`] keeps its numbers. [`Sheet::open`] gives an [`OpenWalk`], which
 //! keeps the sheet, the walk and its rows together. A [`KeptRegister`] keeps
-//! the register in a file, over a power loss too. The module [`lent`] has the
-//! calls as the engine has them, for programs that keep their own rows.
+//! the register in a file, over a power loss too. [`read_packed`] and
+//! [`write_packed`] take coupons from a ledger and to it. The module [`lent`]
+//! has the calls as the engine has them, for programs that keep their own rows.
 //!
 //! Units: money is in billionths of the pool; recovery, hazards and discounts
 //! in billionths; accruals and elapsed fractions in billionths of a year;
@@ -55,7 +56,7 @@ mod refusal;
 mod sheet;
 mod walk;
 
-pub use archive::{issue, withdraw};
+pub use archive::{issue, read_packed, withdraw, write_packed};
 pub use kept::{KeptError, KeptRegister, RegisterFile, RegisterStore};
 pub use open_walk::OpenWalk;
 pub use refusal::Refusal;
@@ -76,7 +77,7 @@ pub mod lent {
 
 /// The version of the archive that this crate is written for, and of its C
 /// header. The first call panics on an archive of another one.
-pub const VERSION: u64 = 4;
+pub const VERSION: u64 = 5;
 
 /// The whole pool in units; also the 1 of recovery, hazards and discounts.
 pub const ONE: u64 = 1_000_000_000;
@@ -92,6 +93,9 @@ pub const MAX_ACCRUALS: u64 = 10 * ONE;
 pub const MAX_COUPON: u64 = 10_000_000;
 /// In bytes.
 pub const MAX_DECK: usize = 65_536;
+
+/// The bytes of a packed coupon, two decimal digits each.
+pub const PACKED_LENGTH: usize = 4;
 
 /// A register has one byte for each sheet number.
 pub const REGISTER_LENGTH: usize = 256;

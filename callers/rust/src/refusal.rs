@@ -90,6 +90,8 @@ refusals! {
     Accrual, 7, "accrual";
     /// One is above the accrual of the next premium date, at its step or after.
     Elapsed, 21, "elapsed";
+    /// A half byte of a packed coupon is above 9.
+    Digit, 30, "digit";
     /// One is above [`MAX_COUPON`](crate::MAX_COUPON).
     Coupon, 8, "coupon";
     /// The register says so.

@@ -20,6 +20,7 @@ fn limits_and_bytes_are_the_same() {
         ("MAX_ACCRUALS", MAX_ACCRUALS),
         ("MAX_COUPON", MAX_COUPON),
         ("MAX_DECK", MAX_DECK as u64),
+        ("PACKED_LENGTH", PACKED_LENGTH as u64),
         ("REGISTER_LENGTH", REGISTER_LENGTH as u64),
     ];
     for (name, number) in numbers {
@@ -41,9 +42,13 @@ fn defined(name: &str) -> &str {
     rest.split([' ', '\n']).next().unwrap()
 }
 
-/// The refusals in the order of their checks, with a gap in the numbers.
+/// The refusals in the order of their checks, with gaps in the numbers.
 fn checked() -> impl Iterator<Item = u8> {
-    (1..=4).chain([25]).chain(5..=7).chain([21]).chain(8..=20)
+    (1..=4)
+        .chain([25])
+        .chain(5..=7)
+        .chain([21, 30])
+        .chain(8..=20)
 }
 
 #[test]
@@ -60,7 +65,7 @@ fn refusals_are_the_same() {
         assert!(found, "{entry}");
     }
     assert_eq!(Refusal::from_number(0), None);
-    for number in (22..=24).chain(26..=u8::MAX) {
+    for number in (22..=24).chain(26..=29).chain(31..=u8::MAX) {
         assert_eq!(Refusal::from_number(number), Some(Refusal::Other(number)));
     }
 }
@@ -118,7 +123,7 @@ fn words_are_the_same() {
     let (_, rest) = HEADER.split_once("words[] = {").unwrap();
     let (table, _) = rest.split_once("};").unwrap();
     let words: Vec<&str> = table.split('"').skip(1).step_by(2).collect();
-    assert_eq!(words.len(), 26);
+    assert_eq!(words.len(), 31);
     for (word, number) in words.into_iter().zip(0..).skip(1) {
         let expected = match Refusal::from_number(number).unwrap() {
             Refusal::Other(_) => "",
@@ -148,7 +153,7 @@ fn every_exported_function_is_declared() {
         let declaration = declaration(function);
         assert!(header.contains(&declaration), "{declaration}");
     }
-    assert_eq!(functions.len(), 12);
+    assert_eq!(functions.len(), 14);
 }
 
 /// The structs of the exported functions, each in the crate that owns it.
@@ -165,6 +170,7 @@ fn every_exported_struct_is_declared() {
         ("returns", "Moved"),
         ("returns", "Valued"),
         ("returns", "Hedged"),
+        ("returns", "Unpacked"),
     ];
     for (owner, name) in structs {
         let start = format!("#[repr(C)]\npub struct {name} {{");
@@ -230,7 +236,7 @@ fn struct_declaration(name: &str, fields: &str) -> String {
 /// The header says what the numbers of an answer are.
 fn field_called<'a>(answer: &str, field: &'a str) -> &'a str {
     match (answer, field) {
-        ("Opened" | "Moved" | "Valued" | "Hedged", "number") => "refusal",
+        ("Opened" | "Moved" | "Valued" | "Hedged" | "Unpacked", "number") => "refusal",
         ("Valued", "default") => "default_leg",
         ("Valued", "premium") => "premium_leg",
         ("Valued", "net") => "net_value",

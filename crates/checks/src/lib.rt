@@ -7,11 +7,9 @@ ghost use Rattle.refusals.specs.Tests.{first, trancheTests, treeTests, figureTe
 use cash::UNITS;
 use refusals::Found;
 use refusals::Refusal;
+use sheet::COUPON_MOST;
 use sheet::Sheet;
 use sheet::part;
-
-// The highest coupon, in thousandths of a basis point a year.
-const COUPON_MOST: u64 = 10_000_000;
 
 // Checks 3 and 4: what the tranches rest on.
 fn tranches_refusal(sheet: Sheet, numbers: &[u64]) -> Found

@@ -1,8 +1,8 @@
-// The calls for programs in C and Rust. Each answers document 01's number, 0 or that of a refusal, with the values as numbers.
+// The calls for programs in C and Rust. Each answers 0 or the number of a refusal, as document 01 or a request has it, with the values as numbers.
 // A slice is a pointer and a length. No call asks anything of its caller but that slices are what they say.
 ghost use mathlib.Core.Path.{_≡_};
 ghost use Prim.Native.Nat.{_<_};
-ghost use lib.ListN.{length};
+ghost use lib.ListN.{length, getD};
 ghost use Rattle.deck.specs.declared.Ran.the-variants.{NoRoom};
 ghost use Rattle.deck.specs.Printing.{room, printing, printingOn, registerLeft};
 ghost use Rattle.register.specs.Register.{issueAnswer, issueLeaves, withdrawAnswer, withdrawLeaves};
@@ -10,30 +10,32 @@ ghost use Rattle.sheet.specs.Spans.{broughtIn};
 ghost use Rattle.walk.specs.Answers.{saidOf, saidBy};
 ghost use Rattle.rows.specs.Rows.{rowsOf};
 ghost use Rattle.walk.specs.Calls.{openCall, backCall, valueCall, ratioCall, forwardCall};
+ghost use Rattle.packed.specs.Promise.{ours};
 ghost use Rattle.export.specs.Bytes.{bytesIn};
 ghost use Rattle.returns.specs.Returns.{opened, moved, valued, hedged, returned};
 use deck::Ran;
 use returns::Hedged;
 use returns::Moved;
 use returns::Opened;
+use returns::Unpacked;
 use returns::Valued;
 use sheet::Sheet;
 use walk::Walk;
 
 // The version of these calls, raised when one of them, a struct or a number changes; 1 had no function that tells it.
-const VERSION: u64 = 4;
+const VERSION: u64 = 5;
 
 #[no_mangle]
 pub extern "C" fn lavroudem_version() -> u64
-    ensures { λ r. ⌜ r ≡ 4 ⌝ }
+    ensures { λ r. ⌜ r ≡ 5 ⌝ }
 {
     VERSION
 }
 
 // The same by name, which a program that is built for another version does not find.
 #[no_mangle]
-pub extern "C" fn lavroudem_version_4() -> u64
-    ensures { λ r. ⌜ r ≡ 4 ⌝ }
+pub extern "C" fn lavroudem_version_5() -> u64
+    ensures { λ r. ⌜ r ≡ 5 ⌝ }
 {
     VERSION
 }
@@ -173,6 +175,28 @@ pub extern "C" fn lavroudem_forward(
         ≡ forwardCall (broughtIn sheet (now (numbers .entry))) (now (register .entry)) (now (row .entry)) steps .row ⌝ }
 {
     returns::number_in(walk::forward(sheet, numbers, register, row, steps))
+}
+
+// The coupon of a packed image.
+#[no_mangle]
+pub extern "C" fn lavroudem_read_packed(image: &[u8]) -> Unpacked
+    ensures said { λ r. ⌜ r .number ≡ ours .read (now (image .entry)) .number ⌝ }
+    ensures told { λ r. ⌜ r .coupon ≡ getD (ours .read (now (image .entry)) .values) 0 0 ⌝ }
+{
+    let reading = packed::read(image);
+    Unpacked {
+        number: packed::reading_number(reading),
+        coupon: packed::coupon_in(reading),
+    }
+}
+
+// Writes the packed image of a coupon over what is lent.
+#[no_mangle]
+pub extern "C" fn lavroudem_write_packed(image: &mut [u8], coupon: u64) -> u8
+    ensures said { λ r. ⌜ r ≡ ours .write (now (image .entry)) coupon .number ⌝ }
+    ensures leaves { λ _. ⌜ now (image .exit) ≡ ours .write (now (image .entry)) coupon .left ⌝ }
+{
+    packed::writing_number(packed::write(image, coupon))
 }
 
 // The room that the listing of a deck of so many bytes may take.

@@ -38,6 +38,13 @@ pub struct Hedged {
     pub walk: Walk,
 }
 
+// What a packed coupon is read as: the coupon, 0 if refused.
+#[repr(C)]
+pub struct Unpacked {
+    pub number: u8,
+    pub coupon: u64,
+}
+
 // 0, or the number of a refusal.
 pub fn number_in(answer: Answer) -> u8
     ensures { λ r. ⌜ r ≡ saidOf answer .number ⌝ }

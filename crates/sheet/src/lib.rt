@@ -14,6 +14,9 @@ pub const TRANCHES_MOST: usize = 8;
 // The most periods: stretches of steps, each with its own hazards.
 pub const PERIODS_MOST: usize = 16;
 
+// The highest coupon, in thousandths of a basis point a year.
+pub const COUPON_MOST: u64 = 10_000_000;
+
 // The most counts of defaults, attachment points or coupons, and entries of a row.
 pub const COUNTS_MOST: usize = 126;
 

@@ -251,4 +251,6 @@ fn main() {
     halves();
     trial_entries::all();
     trial_entries::cut_writes();
+    trial_packed::readings();
+    trial_packed::writings();
 }

@@ -18,6 +18,9 @@ const RUNS: usize = 15;
 /// Calls of a kind that takes microseconds, so that the clock can tell.
 const SHORT_CALLS: usize = 1_000;
 
+/// Calls of nanoseconds; all through the range of a coupon.
+const PACKED_COUPONS: u64 = 100_000;
+
 /// What the calls of one side work on.
 struct Desk {
     sheet: Sheet,
@@ -40,6 +43,8 @@ struct Side {
     value: fn(&Desk) -> Answer<Value>,
     forward: fn(&mut Desk, usize) -> Result<(), Refusal>,
     deck: fn(&mut Desk),
+    /// Written to the four bytes, and read from them.
+    packed: fn(&mut [u8], u64) -> Result<u64, u8>,
 }
 
 const ENGINE: Side = Side {
@@ -54,6 +59,10 @@ const ENGINE: Side = Side {
     forward: |d, steps| engine::forward(&d.lent, &d.register, steps, &mut d.row),
     deck: |d| {
         engine::run_deck(&d.deck, &mut d.out).unwrap();
+    },
+    packed: |image, coupon| {
+        lavroudem::write_packed(image, coupon).map_err(|refusal| refusal.number())?;
+        lavroudem::read_packed(image).map_err(|refusal| refusal.number())
     },
 };
 
@@ -70,6 +79,10 @@ const RUST: Side = Side {
     deck: |d| {
         let printed = listing_by(FAST, &d.deck);
         d.out[..printed.len()].copy_from_slice(&printed);
+    },
+    packed: |image, coupon| {
+        fast::write_packed(image, coupon).map_err(|refusal| refusal.number())?;
+        fast::read_packed(image).map_err(|refusal| refusal.number())
     },
 };
 
@@ -114,6 +127,8 @@ fn main() {
         ("forward_by_0", &full, forward_0),
         ("back_by_0", &full, back_0),
     ]);
+    println!("# {PACKED_COUPONS} coupons, each written and read");
+    compare(&[("packed", &sheet(1, 1, 1), packed)]);
     compare_growth();
 }
 
@@ -337,4 +352,12 @@ fn forward_0(side: &Side, desk: &mut Desk) {
 
 fn deck(side: &Side, desk: &mut Desk) {
     (side.deck)(desk);
+}
+
+fn packed(side: &Side, desk: &mut Desk) {
+    let images = desk.out.chunks_exact_mut(4);
+    for (image, place) in images.zip(1..=PACKED_COUPONS) {
+        let coupon = black_box(place * (10_000_000 / PACKED_COUPONS));
+        assert_eq!((side.packed)(image, coupon), Ok(coupon));
+    }
 }

@@ -4,6 +4,7 @@
 pub mod formulas;
 pub mod limits;
 pub mod orders;
+pub mod packed;
 pub mod worked;
 
 use crate::arithmetic::{decimal, Ratio};

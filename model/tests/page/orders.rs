@@ -1,6 +1,7 @@
 //! The orders in which calls check their refusals: of any two of an order, what
 //! breaks both is answered with the first.
 
+use super::packed::{refused_reading, refused_writing};
 use super::{ensure, entries, same, table, Found};
 use crate::common::desk::Call;
 use crate::common::edges::{base, edges, Change};
@@ -137,33 +138,34 @@ pub fn orders_are_the_models(page: &str) -> Found {
         ("forward", Call::Forward),
     ];
     let rows = table(page, "| Call | Checks, in this order |")?;
-    same(rows.len(), calls.len() + 2, "orders")?;
-    let order = |row: &[&str]| -> Result<Vec<u8>, String> {
-        let numbers: Result<Vec<u8>, _> = row[1].split(", ").map(str::parse).collect();
-        numbers.map_err(|_| format!("no order: {row:?}"))
-    };
+    same(rows.len(), calls.len() + 4, "orders")?;
     for (row, (name, call)) in rows.iter().zip(calls) {
-        same(row[0], name, "a call")?;
-        let order = order(row)?;
-        let mut sorted = order.clone();
-        sorted.sort();
-        same(sorted, faults(call).into_keys().collect(), name)?;
-        in_order(name, &order, &|numbers| refused(call, numbers))?;
+        let numbers = faults(call).into_keys().collect();
+        is_order(row, name, numbers, &|numbers| refused(call, numbers))?;
     }
-    same(rows[7][0], "forward in a deck", "a call")?;
+    is_order(&rows[7], "read packed", vec![2, 8, 30], &refused_reading)?;
+    is_order(&rows[8], "write packed", vec![2, 8], &refused_writing)?;
     let of_a_call = faults(Call::Forward).into_keys();
     // A deck has no other starts than the one.
     let of_a_deck = of_a_call.filter(|&number| number != Refusal::Periods.number());
-    let mut in_a_deck: Vec<u8> = of_a_deck.chain([14]).collect();
-    in_a_deck.sort();
-    let mut sorted = order(&rows[7])?;
+    let in_a_deck = of_a_deck.chain([14]).collect();
+    is_order(&rows[9], "forward in a deck", in_a_deck, &refused_in_a_deck)?;
+    is_order(&rows[10], "a command of a deck", vec![18, 19, 20], &stopped)
+}
+
+/// A row has these numbers, in the order in which they are answered.
+fn is_order(
+    row: &[&str],
+    name: &str,
+    mut numbers: Vec<u8>,
+    answer: &dyn Fn(&[u8]) -> Option<u8>,
+) -> Found {
+    same(row[0], name, "a call")?;
+    let order: Result<Vec<u8>, _> = row[1].split(", ").map(str::parse).collect();
+    let order = order.map_err(|_| format!("no order: {row:?}"))?;
+    let mut sorted = order.clone();
     sorted.sort();
-    same(sorted, in_a_deck, rows[7][0])?;
-    in_order(rows[7][0], &order(&rows[7])?, &refused_in_a_deck)?;
-    same(
-        (rows[8][0], order(&rows[8])?),
-        ("a command of a deck", vec![18, 19, 20]),
-        "stops",
-    )?;
-    in_order(rows[8][0], &order(&rows[8])?, &stopped)
+    numbers.sort();
+    same(sorted, numbers, name)?;
+    in_order(name, &order, answer)
 }

@@ -35,6 +35,7 @@ fn the_header_has_the_same_layout() {
         layout!(Moved lavroudem_moved: refusal position walk),
         layout!(Valued lavroudem_valued: refusal default_leg premium_leg net_value walk),
         layout!(Hedged lavroudem_hedged: refusal ratio walk),
+        layout!(Unpacked lavroudem_unpacked: refusal coupon),
     ]
     .concat();
     let asserts =
@@ -76,6 +77,21 @@ fn the_figures_of_a_refused_call_are_0() {
     assert_eq!((hedged.refusal, hedged.ratio, hedged.walk), (1, 0, walk));
 }
 
+/// One byte short, a digit of 10, and 10,000,001.
+#[test]
+fn the_coupon_of_a_refused_image_is_0() {
+    let refused: [(u8, &[u8]); 3] = [
+        (2, &[0x01, 0x23, 0x45]),
+        (30, &[0x01, 0x23, 0x45, 0x6A]),
+        (8, &[0x10, 0x00, 0x00, 0x01]),
+    ];
+    for (refusal, image) in refused {
+        // SAFETY: pointer and length are those of one slice, which is read.
+        let unpacked = unsafe { lavroudem_read_packed(image.as_ptr(), image.len()) };
+        assert_eq!((unpacked.refusal, unpacked.coupon), (refusal, 0));
+    }
+}
+
 #[test]
 fn an_archive_of_this_version_is_taken() {
     expect_version(VERSION);
@@ -98,5 +114,5 @@ fn every_call_looks_at_the_version() {
         let name = call.split(['(', '<']).next().unwrap();
         assert!(body.starts_with("    same_version();\n"), "{name}");
     }
-    assert_eq!(calls.len(), 10);
+    assert_eq!(calls.len(), 12);
 }

@@ -1,0 +1,5 @@
+pub mod Images
+pub mod Answers
+pub mod Promise
+pub mod Refuted
+pub mod Examples
