@@ -116,7 +116,7 @@ impl Walk {
                 walk: self,
             };
         }
-        backward::walk_back(sheet, numbers, defaults, premiums, position, count);
+        rollback::walk_back(sheet, numbers, defaults, premiums, position, count);
         self.position = position - count;
         Reply {
             answer: Answer::Position(position - count),

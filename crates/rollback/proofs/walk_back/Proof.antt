@@ -4,8 +4,8 @@ use Prim.Native.Nat.{_+_, _*_, _≤_}
 use mathlib.Core.Path.{refl}
 use native.Mathlib.Omega.{arith}
 use Rattle.rows.proofs.Lent.{enough, front, front-size, zeros-front}
-use Rattle.backward.proofs.walk_back.Statement.{statement}
-use Rattle.backward.proofs.walk_back.Tie as tie
+use Rattle.rollback.proofs.walk_back.Statement.{statement}
+use Rattle.rollback.proofs.walk_back.Tie as tie
 
 -- the places: the start, seen where the number of tranches is read; the size known, seen from the first part that is lent
 abbrev start : tie.After-struct-known → tie.Start
