@@ -8,7 +8,7 @@
  * - It checks what it is lent in the order of the refusals below and answers
  *   the number of the first one met, or 0. A refused call changes nothing:
  *   register, rows, image and output keep every byte, the walk comes back as it
- *   was given, and the figures of the answer are 0.
+ *   was given, and the figures of the answer are 0, and so is a length.
  * - A list is lent as a pointer and the number of its entries. This the caller
  *   must see to, for no call can check it: the pointer is aligned for its
  *   entries and not NULL, even where the number is 0; the memory is there; and
@@ -31,6 +31,8 @@
  * - premium leg: units, for a coupon of 100 percent a year
  * - net value: ten-millionths of a unit
  * - hedge ratio: millionths
+ * - nominal of a position: pools, of either sign
+ * - totals of a book: ten-millionths of a unit, as net values are
  */
 #ifndef LAVROUDEM_H
 #define LAVROUDEM_H
@@ -48,13 +50,13 @@ extern "C" {
 
 /*
  * Of this header, raised when a call, a struct or a number in it changes. An
- * archive of another version is not linked: `lavroudem_version_5`, which the
+ * archive of another version is not linked: `lavroudem_version_6`, which the
  * archive of this version alone has, is named by whatever includes this header.
  * `lavroudem_version` answers the archive's version.
  */
-#define LAVROUDEM_VERSION 5
+#define LAVROUDEM_VERSION 6
 uint64_t lavroudem_version(void);
-uint64_t lavroudem_version_5(void);
+uint64_t lavroudem_version_6(void);
 
 #if defined(__has_attribute)
 #if __has_attribute(retain)
@@ -64,7 +66,7 @@ uint64_t lavroudem_version_5(void);
 #ifndef LAVROUDEM_STAYS
 #define LAVROUDEM_STAYS __attribute__((unused, used))
 #endif
-LAVROUDEM_STAYS static uint64_t (*const lavroudem_linked_version)(void) = lavroudem_version_5;
+LAVROUDEM_STAYS static uint64_t (*const lavroudem_linked_version)(void) = lavroudem_version_6;
 
 /* ---- limits */
 
@@ -77,6 +79,10 @@ LAVROUDEM_STAYS static uint64_t (*const lavroudem_linked_version)(void) = lavrou
 #define LAVROUDEM_MAX_COUPON 10000000
 #define LAVROUDEM_MAX_DECK 65536 /* bytes */
 #define LAVROUDEM_PACKED_LENGTH 4 /* bytes of a packed coupon */
+#define LAVROUDEM_MAX_POSITIONS 4096 /* of a book */
+#define LAVROUDEM_MAX_NOMINAL 1000000 /* of a position, on either side of 0 */
+#define LAVROUDEM_MAX_NET_VALUE 200000000000000000 /* of a position, on either side of 0 */
+#define LAVROUDEM_BOOK_LENGTH 96 /* bytes that are lent for the line of a book */
 
 /* Entries of a row of the largest sheet, and of a forward row. */
 #define LAVROUDEM_MAX_ROW ((LAVROUDEM_MAX_TRANCHES + 1) * (LAVROUDEM_MAX_NAMES + 1))
@@ -115,6 +121,7 @@ enum lavroudem_refusal {
     LAVROUDEM_ACCEPTED = 0,
     LAVROUDEM_REFUSED_POOL = 1, /* names, steps or tranches 0 or too many */
     LAVROUDEM_REFUSED_LENGTH = 2, /* a list has another length than it should */
+    LAVROUDEM_REFUSED_BOOK = 28, /* lists of unlike length or too long, or an entry out of range */
     LAVROUDEM_REFUSED_RECOVERY = 3, /* above 1 */
     LAVROUDEM_REFUSED_ATTACHMENTS = 4, /* not strictly rising, or one above 1 */
     LAVROUDEM_REFUSED_PERIODS = 25, /* starts not strictly rising, not from 1, or one above steps */
@@ -149,7 +156,9 @@ static inline const char *lavroudem_word(unsigned refusal)
         "elapsed",
         "", "", "", /* 22 to 24 are none */
         "periods",
-        "", "", "", "", /* 26 to 29 are none */
+        "", "", /* 26 and 27 are none */
+        "book",
+        "", /* 29 is none */
         "digit",
     };
     return refusal < sizeof words / sizeof words[0] ? words[refusal] : "";
@@ -295,6 +304,11 @@ struct lavroudem_unpacked {
     uint64_t coupon;
 };
 
+struct lavroudem_booked {
+    uint8_t refusal;
+    size_t length; /* bytes of the line, its line feed counted */
+};
+
 /* ---- the functions */
 
 /* Makes an unissued number live: writes its byte of the register. Refusals 2, 9, 17. */
@@ -386,6 +400,31 @@ struct lavroudem_unpacked lavroudem_read_packed(const uint8_t *image, size_t ima
 /* Writes the image of a coupon, all its bytes. Refusals 2 and 8. */
 uint8_t lavroudem_write_packed(uint8_t *image, size_t image_length, uint64_t coupon);
 
+/*
+ * Adds up a book. Position k is entry k of both lists: a nominal, at most
+ * LAVROUDEM_MAX_NOMINAL from 0 on either side, and a net value, at most
+ * LAVROUDEM_MAX_NET_VALUE from 0, as all are that a value call answers. It is
+ * worth the product of the two. Writes to the start of `out`
+ *
+ *     book 0 TOTAL GAINS LOSSES
+ *
+ * and a line feed: what all positions are worth, what those above 0 are, and
+ * what those below 0 are, which is 0 or less. All three are exact, to the last
+ * digit, and may have more than 64 bits; the total is the sum of the other two.
+ * The order of the positions makes no difference. The line of no positions is
+ * `book 0 0 0 0`.
+ *
+ * Answers the length of the line. The bytes of `out` beyond it keep what they
+ * held; no zero is put at its end. Refuses with 2 where `out` has not just
+ * LAVROUDEM_BOOK_LENGTH bytes; then with 28 where one list is longer than the
+ * other, both are longer than LAVROUDEM_MAX_POSITIONS, or an entry is out of its
+ * range. It needs no sheet and no register. book.c adds up some.
+ */
+struct lavroudem_booked lavroudem_book(
+    const int64_t *nominals, size_t nominals_length,
+    const int64_t *values, size_t values_length,
+    uint8_t *out, size_t out_length);
+
 /* The bytes that must be lent for the listing of a deck of so many bytes. */
 size_t lavroudem_deck_room(size_t deck_length);
 
@@ -469,6 +508,10 @@ LAVROUDEM_OFFSET(lavroudem_hedged, walk, 16);
 LAVROUDEM_SIZE(lavroudem_unpacked, 16);
 LAVROUDEM_OFFSET(lavroudem_unpacked, refusal, 0);
 LAVROUDEM_OFFSET(lavroudem_unpacked, coupon, 8);
+
+LAVROUDEM_SIZE(lavroudem_booked, 16);
+LAVROUDEM_OFFSET(lavroudem_booked, refusal, 0);
+LAVROUDEM_OFFSET(lavroudem_booked, length, 8);
 
 #ifdef __cplusplus
 }

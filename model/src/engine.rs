@@ -157,7 +157,7 @@ fn handed(walk: lavroudem::Walk) -> Walk {
 }
 
 /// The model's refusal of the same number and word.
-fn refusal(found: lavroudem::Refusal) -> Refusal {
+pub fn refusal(found: lavroudem::Refusal) -> Refusal {
     let same = |known: &Refusal| (known.number(), known.word()) == (found.number(), found.word());
     let known = Refusal::ALL.into_iter().find(same);
     known.unwrap_or_else(|| panic!("the model has no {found}"))

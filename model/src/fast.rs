@@ -5,6 +5,7 @@
 //! model. Refusals are those of the model's own checks where they cost
 //! nothing, and loops of its own where they do.
 
+use crate::book::{LINE_ROOM, MAX_NOMINAL, MAX_POSITIONS, MAX_VALUE};
 use crate::packed::IMAGE_LENGTH;
 use crate::refusal::{refuse_if, Refusal};
 use crate::register;
@@ -138,6 +139,73 @@ pub fn write_packed(image: &mut [u8], coupon: u64) -> Result<(), Refusal> {
         rest /= 100;
     }
     Ok(())
+}
+
+/// Writes the line of a book and gives its length.
+pub fn book(nominals: &[i64], values: &[i64], out: &mut [u8]) -> Result<usize, Refusal> {
+    let out: &mut [u8; LINE_ROOM] = out.try_into().map_err(|_| Refusal::Length)?;
+    let fault = nominals.len() != values.len()
+        || nominals.len() > MAX_POSITIONS
+        || beyond(nominals, MAX_NOMINAL)
+        || beyond(values, MAX_VALUE);
+    refuse_if(fault, Refusal::Book)?;
+    let (mut total, mut gains) = (0, 0);
+    for (&nominal, &value) in nominals.iter().zip(values) {
+        let worth = i128::from(nominal) * i128::from(value);
+        total += worth;
+        gains += worth.max(0);
+    }
+    let start = b"book 0";
+    out[..start.len()].copy_from_slice(start);
+    let mut end = start.len();
+    for figure in [total, gains, total - gains] {
+        end = put_figure(out, end, figure);
+    }
+    out[end] = b'\n';
+    Ok(end + 1)
+}
+
+/// No branch in the loop, so that the compiler takes several at once.
+fn beyond(list: &[i64], most: i64) -> bool {
+    let most = most.unsigned_abs();
+    list.iter().fold(false, |found, number| {
+        found | (number.unsigned_abs() > most)
+    })
+}
+
+/// Puts a space and a figure of up to 36 digits; gives the place behind them.
+fn put_figure(out: &mut [u8; LINE_ROOM], start: usize, figure: i128) -> usize {
+    const LIMB: u128 = 1_000_000_000_000_000_000;
+    let size = figure.unsigned_abs();
+    let (high, low) = match u64::try_from(size) {
+        Ok(low) => (0, low),
+        Err(_) => ((size / LIMB) as u64, (size % LIMB) as u64),
+    };
+    let mut end = start + 1;
+    out[start] = b' ';
+    if figure < 0 {
+        out[end] = b'-';
+        end += 1;
+    }
+    if high == 0 {
+        return put_digits(out, end, low, digit_count(low));
+    }
+    end = put_digits(out, end, high, digit_count(high));
+    put_digits(out, end, low, 18)
+}
+
+fn digit_count(number: u64) -> usize {
+    number.checked_ilog10().unwrap_or(0) as usize + 1
+}
+
+/// So many digits of a number, with zeros in front where it has fewer.
+fn put_digits(out: &mut [u8; LINE_ROOM], start: usize, number: u64, count: usize) -> usize {
+    let mut rest = number;
+    for place in out[start..start + count].iter_mut().rev() {
+        *place = b'0' + (rest % 10) as u8;
+        rest /= 10;
+    }
+    start + count
 }
 
 /// The hazards of the moves into a step, for a sheet that passed its checks.

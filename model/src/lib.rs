@@ -9,6 +9,7 @@
 //! - [`cash`]: rounding, losses, outstanding notional, payments
 //! - [`tree`]: rolling rows back, net values, hedge ratios, default counts
 //! - [`packed`]: coupons as the ledger sends them, in packed decimal
+//! - [`book`]: one figure for the positions of a whole book
 //! - [`register`]: which sheet numbers are live, and what a power loss leaves
 //! - [`walk`]: the calls with everything lent to them and all their refusals
 //! - [`commands`]: the commands of a deck, by byte and by word
@@ -26,6 +27,7 @@
 //! Words: a tranche is a "slice" of document 01, and attachment points are
 //! its "cuts". Tranche number r stands for the index throughout.
 
+pub mod book;
 pub mod cash;
 pub mod commands;
 pub mod deck;

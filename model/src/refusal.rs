@@ -30,13 +30,15 @@ pub enum Refusal {
     Elapsed = 21,
     /// Checked before 5.
     Periods = 25,
+    /// Of a book alone, checked after 2.
+    Book = 28,
     /// Of a coupon in packed decimal alone, checked before 8.
     Digit = 30,
 }
 
 impl Refusal {
-    /// In the order of their numbers: 1 to 21, then 25 and 30.
-    pub const ALL: [Refusal; 23] = [
+    /// In the order of their numbers: 1 to 21, then 25, 28 and 30.
+    pub const ALL: [Refusal; 24] = [
         Refusal::Pool,
         Refusal::Length,
         Refusal::Recovery,
@@ -59,6 +61,7 @@ impl Refusal {
         Refusal::TooMany,
         Refusal::Elapsed,
         Refusal::Periods,
+        Refusal::Book,
         Refusal::Digit,
     ];
 
@@ -98,6 +101,7 @@ impl Refusal {
             Refusal::TooMany => "too many",
             Refusal::Elapsed => "elapsed",
             Refusal::Periods => "periods",
+            Refusal::Book => "book",
             Refusal::Digit => "digit",
         }
     }

@@ -5,6 +5,7 @@
 //! that follow one another, so that each refusal stands beside what is just
 //! accepted. `tests/trials.rs` holds that no number can be moved unseen.
 
+use crate::book;
 use crate::deck::{Calls, CALLS};
 use crate::packed;
 use crate::refusal::Refusal;
@@ -581,6 +582,7 @@ pub fn listing_by(calls: &Calls) -> String {
     text.push_str(&register_lines(calls));
     text.push_str(&cut_lines());
     text.push_str(&packed_lines(packed::read, packed::write));
+    text.push_str(&book_lines(book::book));
     text
 }
 
@@ -851,4 +853,110 @@ pub fn packed_lines(
         text.push_str(&format!("coupon {coupon} lent {length}{answer}{left}\n"));
     }
     text
+}
+
+/// A book that is tried: how many bytes are lent, how long the two lists are,
+/// the first position of them, and all others. A position is a nominal and a W.
+type Book = (usize, (usize, usize), (i64, i64), (i64, i64));
+
+/// The most of a W.
+const W: i64 = 200_000_000_000_000_000;
+
+/// Signs and sums, each figure at its ends, lines of many lengths, and what is
+/// refused at both sides of its limit.
+const BOOKS: [Book; 54] = [
+    (96, (0, 0), (0, 0), (0, 0)),
+    (96, (1, 1), (1, 1), (0, 0)),
+    (96, (1, 1), (-1, 1), (0, 0)),
+    (96, (1, 1), (1, -1), (0, 0)),
+    (96, (1, 1), (-1, -1), (0, 0)),
+    (96, (2, 2), (1, 5), (-1, 5)),
+    (96, (3, 3), (2, -3), (0, -5)),
+    // 28 bytes.
+    (96, (2, 2), (1_000_000, 1), (-1_000, 1)),
+    // Carried and borrowed at thousands of millions and at their squares.
+    (96, (2, 2), (1, 999_999_999), (1, 1)),
+    (96, (2, 2), (1, 1_000_000_000), (0, 0)),
+    (96, (2, 2), (1, 1_000_000_000), (-1, 1)),
+    (96, (2, 2), (-1, 1_000_000_000), (1, 1)),
+    (96, (2, 2), (1_000, 1_000_000_000_000_000), (-1, 1)),
+    (96, (2, 2), (-1_000, 1_000_000_000_000_000), (1, 1)),
+    (96, (2, 2), (1_000, 1_000_000_000_000_000), (0, 7)),
+    (96, (2, 2), (1_000_000, 1_000_000_000_000), (1, 1)),
+    (96, (2, 2), (999_999, 1_000_001_000_001), (0, 0)),
+    (96, (2, 2), (999_999, 1_000_001_000_001), (1, 1)),
+    (96, (6, 6), (1, W - 1), (1, W - 1)),
+    (96, (1, 1), (1_000_000, 1_000_000_001_000), (0, 0)),
+    (96, (2, 2), (1_000_000, 9_223_372_036_854), (1, 775_808)),
+    (96, (2, 2), (-1_000_000, 9_223_372_036_854), (-1, 775_809)),
+    (96, (2, 2), (1_000_000, 18_446_744_073_709), (1, 551_616)),
+    (96, (2, 2), (1_000_000, W), (-1_000_000, W)),
+    (96, (4_096, 4_096), (1_000_000, W), (1_000_000, W)),
+    (96, (4_096, 4_096), (-1_000_000, W), (1_000_000, -W)),
+    (96, (4_096, 4_096), (-1_000_000, -W), (1_000_000, -W)),
+    (96, (4_096, 4_096), (-1_000_000, W), (1_000_000, W)),
+    (96, (4_095, 4_095), (1, 1), (-1, -1)),
+    // 28: more than there may be, and lists of unlike length.
+    (96, (4_097, 4_097), (0, 0), (0, 0)),
+    (96, (4_096, 4_095), (0, 0), (0, 0)),
+    (96, (4_095, 4_096), (0, 0), (0, 0)),
+    (96, (1, 2), (1, 1), (1, 1)),
+    (96, (2, 1), (1, 1), (1, 1)),
+    (96, (0, 1), (1, 1), (0, 0)),
+    // 28: nominals and values beyond their limits.
+    (96, (1, 1), (1_000_001, 1), (0, 0)),
+    (96, (1, 1), (-1_000_001, 1), (0, 0)),
+    (96, (1, 1), (1, W + 1), (0, 0)),
+    (96, (1, 1), (1, -W - 1), (0, 0)),
+    (96, (1, 1), (1_000_001, 0), (0, 0)),
+    (96, (1, 1), (0, W + 1), (0, 0)),
+    (96, (2, 2), (1, 1), (1_000_001, 0)),
+    (96, (2, 2), (1, 1), (0, W + 1)),
+    (96, (1, 1), (i64::MIN, 1), (0, 0)),
+    (96, (1, 1), (1, i64::MIN), (0, 0)),
+    (96, (1, 1), (i64::MAX, 1), (0, 0)),
+    (96, (1, 1), (1, i64::MAX), (0, 0)),
+    // 2, also beside 28.
+    (95, (1, 1), (1, 1), (0, 0)),
+    (97, (1, 1), (1, 1), (0, 0)),
+    (0, (1, 1), (1, 1), (0, 0)),
+    (0, (0, 0), (0, 0), (0, 0)),
+    (95, (1, 2), (1_000_001, 1), (0, 0)),
+    (97, (4_097, 4_097), (0, 0), (0, 0)),
+    (97, (1, 1), (1, -W - 1), (0, 0)),
+];
+
+/// A call for a book: nominals, values, and the bytes for its line.
+type BookCall = fn(&[i64], &[i64], &mut [u8]) -> Result<usize, Refusal>;
+
+/// 2 and 28: books with their lines, and the sum of what is left of the lent
+/// bytes, each times its place counted from 1.
+pub fn book_lines(book: BookCall) -> String {
+    let mut text = String::new();
+    for (lent, (nominals, values), first, second) in BOOKS {
+        let mut out = vec![0xFF; lent];
+        text.push_str(&format!("book lent {lent} positions {nominals} {values}"));
+        let nominals = list_of(nominals, first.0, second.0);
+        let values = list_of(values, first.1, second.1);
+        match book(&nominals, &values, &mut out) {
+            Ok(length) => {
+                let line = String::from_utf8_lossy(&out[..length]);
+                text.push_str(&format!(" answer 0 bytes {length}\n{line}"));
+            }
+            Err(refusal) => text.push_str(&format!(" answer {}\n", refusal.number())),
+        }
+        let weighed = out
+            .iter()
+            .zip(1..)
+            .map(|(&byte, place)| place * u64::from(byte));
+        text.push_str(&format!("left {}\n", weighed.sum::<u64>()));
+    }
+    text
+}
+
+/// The first number, and another at every further place.
+fn list_of(length: usize, first: i64, others: i64) -> Vec<i64> {
+    let mut list = vec![others; length];
+    list.iter_mut().take(1).for_each(|number| *number = first);
+    list
 }

@@ -1,7 +1,9 @@
 //! What `callers/c/unequal.c`, `callers/c/periods.c` and
 //! `callers/c/elapsed.c` print is what the model says of their sheets, and
-//! what `callers/c/packed.c` prints is what it says of those coupons.
+//! what `callers/c/packed.c` and `callers/c/book.c` print is what it says of
+//! those coupons and positions.
 
+use lavroudem_model::book::{book, LINE_ROOM};
 use lavroudem_model::packed;
 use lavroudem_model::refusal::Refusal;
 use lavroudem_model::sheet::{check, Sheet};
@@ -15,6 +17,7 @@ const UNEQUAL: &str = include_str!("../../callers/unequal.stdout");
 const PERIODS: &str = include_str!("../../callers/periods.stdout");
 const ELAPSED: &str = include_str!("../../callers/elapsed.stdout");
 const PACKED: &str = include_str!("../../callers/packed.stdout");
+const BOOK: &str = include_str!("../../callers/book.stdout");
 
 /// No two of names, steps and tranches + 1 are the same.
 fn unequal_sheet() -> Sheet {
@@ -225,4 +228,44 @@ fn packed_coupons() {
         writeln!(lines, "coupon {coupon}: {stays}{}", shown(&image)).unwrap();
     }
     assert_eq!(lines, PACKED);
+}
+
+/// The nominals and net values of `callers/c/book.c`; one pool too many, a value
+/// left out, and a byte of the buffer left out.
+#[test]
+fn positions_of_a_book() {
+    let nominals = [1_000_000, -724_386, 250_000, -40];
+    let values = [
+        324_300_000_000_000,
+        194_250_000_000_000,
+        -90_000_000_000_000_001,
+        -7,
+    ];
+    let turned = |list: [i64; 4]| [list[3], list[2], list[1], list[0]];
+    let (last_nominals, last_values) = (turned(nominals), turned(values));
+    let mut raised = nominals;
+    raised[0] += 1;
+    let books: [(&str, &[i64], &[i64], usize); 6] = [
+        ("no positions", &[], &[], LINE_ROOM),
+        ("four positions", &nominals, &values, LINE_ROOM),
+        ("turned round", &last_nominals, &last_values, LINE_ROOM),
+        ("one pool more", &raised, &values, LINE_ROOM),
+        ("a value short", &nominals, &values[..3], LINE_ROOM),
+        ("a byte short", &nominals, &values, LINE_ROOM - 1),
+    ];
+    let mut out = [0; LINE_ROOM];
+    let mut length = 0;
+    let mut lines = String::new();
+    for (what, nominals, values, room) in books {
+        let stays = match book(nominals, values, &mut out[..room]) {
+            Ok(written) => {
+                length = written;
+                String::new()
+            }
+            Err(refusal) => format!("{}; the line stays ", told(refusal)),
+        };
+        let line = str::from_utf8(&out[..length]).unwrap();
+        write!(lines, "{what}: {stays}{line}").unwrap();
+    }
+    assert_eq!(lines, BOOK);
 }

@@ -2,7 +2,9 @@
 
 mod common;
 
+use common::books::{self, Met};
 use common::{breaks, plain_sheet, Random};
+use lavroudem_model::book::book;
 use lavroudem_model::fast;
 use lavroudem_model::packed;
 use lavroudem_model::register;
@@ -144,4 +146,20 @@ fn packed_coupons() {
         }
     }
     assert_eq!(refusals, BTreeSet::from([2, 8, 30]));
+}
+
+#[test]
+fn random_books() {
+    let mut random = Random::new(0xB00C_0004);
+    let mut met = Met::default();
+    for _ in 0..60_000 {
+        let lent = books::call(&mut random);
+        let (mut out, mut fast_out) = (lent.out.clone(), lent.out.clone());
+        let answer = book(&lent.nominals, &lent.values, &mut out);
+        let fast_answer = fast::book(&lent.nominals, &lent.values, &mut fast_out);
+        assert_eq!(fast_answer, answer, "{lent:?}");
+        assert_eq!(fast_out, out, "{lent:?}");
+        met.add(&lent, answer, &out);
+    }
+    met.assert_all(500);
 }

@@ -3,6 +3,7 @@
 //! byte of the buffer must be equal after every call.
 #![cfg(feature = "engine")]
 
+use lavroudem_model::engine::refusal;
 use lavroudem_model::packed;
 use lavroudem_model::random::Random;
 use lavroudem_model::refusal::Refusal;
@@ -164,13 +165,6 @@ fn odd_coupons_and_lengths_are_written_alike() {
     }
     let answers: Vec<u8> = met.keys().copied().collect();
     assert_eq!(answers, [0, 2, 8]);
-}
-
-/// The model's refusal of the same number and word.
-fn refusal(found: lavroudem::Refusal) -> Refusal {
-    let same = |known: &Refusal| (known.number(), known.word()) == (found.number(), found.word());
-    let known = Refusal::ALL.into_iter().find(same);
-    known.unwrap_or_else(|| panic!("the model has no {found}"))
 }
 
 /// The lines of the trials, through the archive that callers link; and the

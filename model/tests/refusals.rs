@@ -37,6 +37,7 @@ fn numbers_and_words() {
         (Refusal::TooMany, 20, "too many"),
         (Refusal::Elapsed, 21, "elapsed"),
         (Refusal::Periods, 25, "periods"),
+        (Refusal::Book, 28, "book"),
         (Refusal::Digit, 30, "digit"),
     ];
     assert_eq!(table.map(|(refusal, _, _)| refusal), Refusal::ALL);

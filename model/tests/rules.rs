@@ -9,12 +9,14 @@ mod page;
 use arithmetic::{commas, work_out, Ratio};
 use common::edges::walked;
 use common::plain_sheet;
+use lavroudem_model::book::LINE_ROOM;
 use lavroudem_model::cash::{outstanding, pool_loss};
 use lavroudem_model::commands::COMMANDS;
 use lavroudem_model::packed::IMAGE_LENGTH;
 use lavroudem_model::refusal::Refusal;
 use lavroudem_model::register::{self, cut_issue, cut_withdrawal, status, Status};
 use lavroudem_model::sheet::{B, MAX_ACCRUAL_SUM, MAX_NAMES, MAX_STEPS, MAX_TRANCHES};
+use page::book::*;
 use page::formulas::*;
 use page::limits::*;
 use page::orders::*;
@@ -70,6 +72,10 @@ checks! {
     figure_formulas_are_the_models;
     entry_formulas_are_the_models;
     loss_formulas_are_the_models;
+    books_are_the_models;
+    books_are_described;
+    limits_of_a_book_are_the_models;
+    worked_book_is_right;
 }
 
 fn root() -> PathBuf {
@@ -96,10 +102,18 @@ fn refusals_are_the_models(page: &str) -> Found {
 /// The numbers that no refusal has, and those that are out of turn.
 fn numbers_in_between_are_free(page: &str) -> Found {
     let numbers = Refusal::ALL.map(Refusal::number);
-    let gaps = numbers.windows(2).filter(|pair| pair[0] + 1 < pair[1]);
-    let gaps = gaps.map(|pair| format!("{} to {}", pair[0] + 1, pair[1] - 1));
-    let gaps: Vec<String> = gaps.collect();
-    let free = format!("The numbers {} stand for nothing;", gaps.join(" and "));
+    let gaps = numbers.windows(2).map(|pair| pair[0] + 1..pair[1]);
+    let mut gaps: Vec<String> = gaps
+        .flat_map(|gap| match gap.len() {
+            0..=2 => gap.map(|number| number.to_string()).collect(),
+            _ => vec![format!("{} to {}", gap.start, gap.end - 1)],
+        })
+        .collect();
+    let last = gaps.pop().ok_or("no number is free")?;
+    let free = format!(
+        "The numbers {} and {last} stand for nothing;",
+        gaps.join(", ")
+    );
     let [periods, elapsed, digit] =
         [Refusal::Periods, Refusal::Elapsed, Refusal::Digit].map(Refusal::number);
     let [hazard, accrual, coupon] =
@@ -282,6 +296,7 @@ fn lengths_are_the_models(page: &str) -> Found {
         desk.default_row.len(),
         desk.forward_row.len(),
         IMAGE_LENGTH,
+        LINE_ROOM,
     ];
     same(rows.len(), lengths.len(), "lengths")?;
     for (row, length) in rows.iter().zip(lengths).skip(1) {

@@ -3,7 +3,7 @@
 //! nothing in between is seen in the code. One function stores, one byte, once;
 //! issue and withdraw call it only where they accept; every other function that
 //! may write a register hands it on. The image of a packed coupon is held to the
-//! same.
+//! same, and so is the line of a book.
 //!
 //! Nor does a contract say in which form a figure is worked out: that a
 //! tranche's loss has three cases, and stands in one function. Or how often:
@@ -418,11 +418,72 @@ fn a_refused_coupon_stores_nothing() {
     assert_eq!(judge.kind_of("image"), Some("& [ u8 ]"));
 }
 
+/// The function that is lent the room of a book's line, and its exported call:
+/// lists and room are only read before the line is stored.
+const LINE_CALLS: [(&str, &str); 2] = [
+    (
+        "book/src/lib.rt: total",
+        "if out.len() != SIZE {
+             return Report::Length;
+         }
+         if totals::is_taken(nominals, values) {
+             return Report::Written(store_line(out, totals::add_up(nominals, values)));
+         }
+         Report::Book",
+    ),
+    (
+        "export/src/lib.rt: lavroudem_book",
+        "let report = book::total(nominals, values, out);
+         Booked {
+             number: book::report_number(report),
+             length: book::bytes_in(report),
+         }",
+    ),
+];
+
+/// The one that stores the line.
+const LINE_STORE: &str = "book/src/lib.rt: store_line";
+
+#[test]
+fn a_refused_book_stores_nothing() {
+    let functions = functions();
+    for (place, body) in LINE_CALLS {
+        assert_eq!(function(&functions, place).body, words(body), "{place}");
+    }
+    let writes = |it: &&Function| {
+        it.place.starts_with("book/") && it.parameters.iter().any(|(_, kind)| kind.contains("mut"))
+    };
+    let writers: Vec<&str> = functions
+        .iter()
+        .filter(writes)
+        .map(|it| it.place.as_str())
+        .collect();
+    assert_eq!(writers, [LINE_STORE, LINE_CALLS[0].0]);
+    let stores = |it: &&Function| it.body.iter().any(|word| word == "store_line");
+    let callers: Vec<&str> = functions
+        .iter()
+        .filter(stores)
+        .map(|it| it.place.as_str())
+        .collect();
+    assert_eq!(callers, [LINE_CALLS[0].0]);
+    for function in functions
+        .iter()
+        .filter(|it| it.place.starts_with("totals/"))
+    {
+        let reads = function
+            .parameters
+            .iter()
+            .all(|(_, kind)| !kind.contains("mut"));
+        assert!(reads, "{}", function.place);
+    }
+}
+
 /// What a program's input is read into.
 const READS: (&str, &str) = ("listing/src/main.rt: read_all", "input");
 
-/// A writable slice of bytes is a register, the listing's room or the image of
-/// a packed coupon, and called so, but for what is read into.
+/// A writable slice of bytes is a register, the room of a listing or a book's
+/// line, or the image of a packed coupon, and called so, but for what is read
+/// into.
 #[test]
 fn writable_bytes_are_called_register_out_or_image() {
     for function in functions() {

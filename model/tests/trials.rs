@@ -38,7 +38,7 @@ fn is_tried(edge: &Edge, value: u64) -> bool {
 /// The numbers that the calls of a line answer.
 fn numbers_answered(line: &str) -> Vec<&str> {
     let calls = [
-        "open", "back", "value", "ratio", "forward", "issue", "withdraw", "read", "write",
+        "open", "back", "value", "ratio", "forward", "issue", "withdraw", "read", "write", "answer",
     ];
     let words: Vec<&str> = line.split(' ').collect();
     let answered = words.windows(2).filter(|pair| calls.contains(&pair[0]));
@@ -254,6 +254,154 @@ coupon 1 lent 5 write 2 255 255 255 255 255
 coupon 10000001 lent 3 write 2 255 255 255
 coupon 10000001 lent 5 write 2 255 255 255 255 255
 coupon 1 lent 0 write 2
+";
+    let listing = listing();
+    let (before_books, _) = listing.split_once("book lent ").unwrap();
+    assert!(before_books.ends_with(expected));
+}
+
+/// Books with their lines, and what is left of the lent bytes, weighed by their
+/// places.
+#[test]
+fn book_lines_are_what_they_should_be() {
+    let expected = "
+book lent 96 positions 0 0 answer 0 bytes 13
+book 0 0 0 0
+left 1168038
+book lent 96 positions 1 1 answer 0 bytes 13
+book 0 1 1 0
+left 1168056
+book lent 96 positions 1 1 answer 0 bytes 15
+book 0 -1 0 -1
+left 1161887
+book lent 96 positions 1 1 answer 0 bytes 15
+book 0 -1 0 -1
+left 1161887
+book lent 96 positions 1 1 answer 0 bytes 13
+book 0 1 1 0
+left 1168056
+book lent 96 positions 2 2 answer 0 bytes 14
+book 0 0 5 -5
+left 1165181
+book lent 96 positions 3 3 answer 0 bytes 15
+book 0 -6 0 -6
+left 1162002
+book lent 96 positions 2 2 answer 0 bytes 28
+book 0 999000 1000000 -1000
+left 1102220
+book lent 96 positions 2 2 answer 0 bytes 31
+book 0 1000000000 1000000000 0
+left 1083114
+book lent 96 positions 2 2 answer 0 bytes 31
+book 0 1000000000 1000000000 0
+left 1083114
+book lent 96 positions 2 2 answer 0 bytes 31
+book 0 999999999 1000000000 -1
+left 1084052
+book lent 96 positions 2 2 answer 0 bytes 32
+book 0 -999999999 1 -1000000000
+left 1077576
+book lent 96 positions 2 2 answer 0 bytes 49
+book 0 999999999999999999 1000000000000000000 -1
+left 933707
+book lent 96 positions 2 2 answer 0 bytes 50
+book 0 -999999999999999999 1 -1000000000000000000
+left 923748
+book lent 96 positions 2 2 answer 0 bytes 49
+book 0 1000000000000000000 1000000000000000000 0
+left 931104
+book lent 96 positions 2 2 answer 0 bytes 49
+book 0 1000000000000000001 1000000000000000001 0
+left 931176
+book lent 96 positions 2 2 answer 0 bytes 47
+book 0 999999999999999999 999999999999999999 0
+left 959695
+book lent 96 positions 2 2 answer 0 bytes 49
+book 0 1000000000000000000 1000000000000000000 0
+left 931104
+book lent 96 positions 6 6 answer 0 bytes 49
+book 0 1199999999999999994 1199999999999999994 0
+left 939350
+book lent 96 positions 1 1 answer 0 bytes 49
+book 0 1000000001000000000 1000000001000000000 0
+left 931158
+book lent 96 positions 2 2 answer 0 bytes 49
+book 0 9223372036854775808 9223372036854775808 0
+left 936014
+book lent 96 positions 2 2 answer 0 bytes 51
+book 0 -9223372036854775809 0 -9223372036854775809
+left 915692
+book lent 96 positions 2 2 answer 0 bytes 51
+book 0 18446744073709551616 18446744073709551616 0
+left 914935
+book lent 96 positions 2 2 answer 0 bytes 60
+book 0 0 200000000000000000000000 -200000000000000000000000
+left 805898
+book lent 96 positions 4096 4096 answer 0 bytes 65
+book 0 819200000000000000000000000 819200000000000000000000000 0
+left 740566
+book lent 96 positions 4096 4096 answer 0 bytes 67
+book 0 -819200000000000000000000000 0 -819200000000000000000000000
+left 713302
+book lent 96 positions 4096 4096 answer 0 bytes 90
+book 0 -818800000000000000000000000 200000000000000000000000 -819000000000000000000000000
+left 336335
+book lent 96 positions 4096 4096 answer 0 bytes 89
+book 0 818800000000000000000000000 819000000000000000000000000 -200000000000000000000000
+left 354550
+book lent 96 positions 4095 4095 answer 0 bytes 19
+book 0 4095 4095 0
+left 1147617
+book lent 96 positions 4097 4097 answer 28
+left 1187280
+book lent 96 positions 4096 4095 answer 28
+left 1187280
+book lent 96 positions 4095 4096 answer 28
+left 1187280
+book lent 96 positions 1 2 answer 28
+left 1187280
+book lent 96 positions 2 1 answer 28
+left 1187280
+book lent 96 positions 0 1 answer 28
+left 1187280
+book lent 96 positions 1 1 answer 28
+left 1187280
+book lent 96 positions 1 1 answer 28
+left 1187280
+book lent 96 positions 1 1 answer 28
+left 1187280
+book lent 96 positions 1 1 answer 28
+left 1187280
+book lent 96 positions 1 1 answer 28
+left 1187280
+book lent 96 positions 1 1 answer 28
+left 1187280
+book lent 96 positions 2 2 answer 28
+left 1187280
+book lent 96 positions 2 2 answer 28
+left 1187280
+book lent 96 positions 1 1 answer 28
+left 1187280
+book lent 96 positions 1 1 answer 28
+left 1187280
+book lent 96 positions 1 1 answer 28
+left 1187280
+book lent 96 positions 1 1 answer 28
+left 1187280
+book lent 95 positions 1 1 answer 2
+left 1162800
+book lent 97 positions 1 1 answer 2
+left 1212015
+book lent 0 positions 1 1 answer 2
+left 0
+book lent 0 positions 0 0 answer 2
+left 0
+book lent 95 positions 1 2 answer 2
+left 1162800
+book lent 97 positions 4097 4097 answer 2
+left 1212015
+book lent 97 positions 1 1 answer 2
+left 1212015
 ";
     assert!(listing().ends_with(expected));
 }

@@ -72,6 +72,17 @@ pub fn as_text(bytes: &[u8]) -> Result<&str, Mistake> {
     Err(odd_byte(bytes, place, "which is not UTF-8"))
 }
 
+/// The characters of what can be nothing but text. A control character in it
+/// is a mistake.
+pub fn plain_text(bytes: &[u8]) -> Result<&str, Mistake> {
+    let text = as_text(bytes)?;
+    if is_plain(text) {
+        return Ok(text);
+    }
+    let oddity = other_encoding(bytes).or_else(|| first_oddity(bytes));
+    oddity.map_or(Ok(text), Err)
+}
+
 /// What keeps a file from being text that was clearly meant to be. Such a
 /// file is no deck either: a deck stops at an unknown byte or a cut command
 /// where words stand. So nothing that the engine runs to its end is held up.
@@ -120,7 +131,7 @@ fn other_encoding(bytes: &[u8]) -> Option<Mistake> {
     };
     Some(Mistake {
         line: 1,
-        reason: format!("this is {name}; a text deck is UTF-8"),
+        reason: format!("this is {name}; a text is UTF-8"),
     })
 }
 
@@ -140,6 +151,6 @@ fn odd_byte(bytes: &[u8], place: usize, why: &str) -> Mistake {
     let byte = bytes[place];
     Mistake {
         line: 1 + before.iter().filter(|&&byte| byte == b'\n').count(),
-        reason: format!("byte {column} of the line is {byte:02X}, {why}, so this is no text deck"),
+        reason: format!("byte {column} of the line is {byte:02X}, {why}, so this is no text"),
     }
 }

@@ -26,6 +26,11 @@ pub fn read(file: &mut dyn Read, form: Form) -> io::Result<Vec<u8>> {
     Ok(bytes)
 }
 
+/// A text, whatever it looks like.
+pub fn read_text(file: &mut dyn Read) -> io::Result<Vec<u8>> {
+    read(file, Form::Text)
+}
+
 /// A deck as it is.
 pub fn read_deck(file: &mut dyn Read) -> io::Result<Vec<u8>> {
     read(file, Form::Binary)

@@ -276,6 +276,7 @@ fn explanation(refusal: Refusal) -> &'static str {
         Refusal::TooMany => "a second pool, a list too long, or a deck above 65536 bytes",
         Refusal::Elapsed => "an elapsed fraction is above the accrual of the next premium date",
         Refusal::Periods => "not met by a deck, whose one period starts at step 1",
+        Refusal::Book => "not met by a deck, which has no book",
         Refusal::Digit => "not met by a deck, whose coupons are not packed",
     }
 }
@@ -311,24 +312,13 @@ pub fn nearest(number: i128, divisor: i128) -> i128 {
 // ---- layout
 
 fn aligned(rows: &[Row]) -> String {
-    let widths = widths(rows);
-    let line = |cells: &[&str]| -> String {
-        let places = cells.iter().zip(&widths).enumerate();
-        let padded = places.map(|(column, (text, &width))| match column {
-            0..WORDS => format!("{text:<width$}  "),
-            _ => format!("{text:>width$}  "),
-        });
-        padded.collect()
-    };
-    let mut lines: Vec<String> = HEADINGS.iter().map(|heading| line(heading)).collect();
-    for row in rows {
-        lines.push(match &row.answer {
-            Ok(figures) => line(&row.cells(figures)),
-            Err(refused) => line(&row.cells(&[])) + refused,
-        });
-    }
-    let text = lines.iter().map(|line| line.trim_end().to_string() + "\n");
-    text.collect()
+    let headings = HEADINGS.iter().map(|heading| (heading.to_vec(), ""));
+    let rows = rows.iter().map(|row| match &row.answer {
+        Ok(figures) => (row.cells(figures), ""),
+        Err(refused) => (row.cells(&[]), &refused[..]),
+    });
+    let lines: Vec<Line> = headings.chain(rows).collect();
+    laid_out(&lines, WORDS)
 }
 
 impl Row {
@@ -341,14 +331,32 @@ impl Row {
     }
 }
 
-/// The longest text of each column. A refusal lies across the columns.
-fn widths(rows: &[Row]) -> [usize; COLUMNS] {
-    let mut widths = [0; COLUMNS];
-    let headings = HEADINGS.iter().map(|heading| heading.to_vec());
-    let rows = rows
-        .iter()
-        .map(|row| row.cells(row.answer.as_ref().map_or(&[], |f| &f[..])));
-    for cells in headings.chain(rows) {
+/// The first cells of a line, and what lies across the columns after them.
+pub(crate) type Line<'a> = (Vec<&'a str>, &'a str);
+
+/// Lines in columns, of which the first so many stand at the left.
+pub(crate) fn laid_out(lines: &[Line], words: usize) -> String {
+    let widths = widths(lines);
+    let line = |(cells, across): &Line| {
+        let places = cells.iter().zip(&widths).enumerate();
+        let padded = places.map(|(column, (text, &width))| {
+            if column < words {
+                format!("{text:<width$}  ")
+            } else {
+                format!("{text:>width$}  ")
+            }
+        });
+        let text = padded.collect::<String>() + across;
+        text.trim_end().to_string() + "\n"
+    };
+    lines.iter().map(line).collect()
+}
+
+/// The longest text of each column.
+fn widths(lines: &[Line]) -> Vec<usize> {
+    let columns = lines.iter().map(|(cells, _)| cells.len()).max();
+    let mut widths = vec![0; columns.unwrap_or(0)];
+    for (cells, _) in lines {
         for (width, text) in widths.iter_mut().zip(cells) {
             *width = text.len().max(*width);
         }

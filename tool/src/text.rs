@@ -86,8 +86,8 @@ impl Lines {
 /// The deck that a file holds, as text or as it is. A file that is nearly
 /// text is no deck, and is told what keeps it from being text.
 pub fn read(bytes: Vec<u8>, form: Form) -> Result<Assembled, Mistake> {
-    if form != Form::Binary && bytes.len() > MAX_TEXT {
-        return Err(too_long(&bytes));
+    if form != Form::Binary {
+        within_length(&bytes)?;
     }
     let is_text = match form {
         Form::Text => true,
@@ -137,22 +137,31 @@ pub fn assemble_with_lines(text: &str) -> Result<Assembled, Mistake> {
     Ok(assembled)
 }
 
-fn too_long(text: &[u8]) -> Mistake {
+/// A text that is too long is told where it passes the limit.
+pub(crate) fn within_length(text: &[u8]) -> Result<(), Mistake> {
+    if text.len() <= MAX_TEXT {
+        return Ok(());
+    }
     let ends = text[..MAX_TEXT].iter().filter(|&&byte| byte == b'\n');
-    Mistake {
+    Err(Mistake {
         line: 1 + ends.count(),
         reason: format!("here the text passes {MAX_TEXT} bytes, the most it may have"),
-    }
+    })
 }
 
-/// The bytes of a line, and how often they come.
-fn assemble_line(line: &str) -> Result<(Vec<u8>, usize), String> {
+/// The words of a line, without its comment.
+pub(crate) fn words_of(line: &str) -> Result<Vec<&str>, String> {
     // An editor would show two lines, of which a comment hides one.
     if let Some(end) = line.chars().find(|&c| ends_a_line_elsewhere(c)) {
         return Err(format!("{} within the line; a line ends in 0A", quote::word(&end.to_string())));
     }
     let code = line.split('#').next().unwrap_or_default();
-    let words: Vec<&str> = code.split_whitespace().collect();
+    Ok(code.split_whitespace().collect())
+}
+
+/// The bytes of a line, and how often they come.
+fn assemble_line(line: &str) -> Result<(Vec<u8>, usize), String> {
+    let words = words_of(line)?;
     let (words, times) = without_repeat(&words)?;
     match words {
         [] => Ok((vec![], 0)),
@@ -263,7 +272,7 @@ fn decimal(word: &str) -> Option<u64> {
     word.parse().ok().filter(|_| is_digits(word))
 }
 
-fn is_digits(word: &str) -> bool {
+pub(crate) fn is_digits(word: &str) -> bool {
     word.bytes().all(|digit| digit.is_ascii_digit())
 }
 

@@ -1,7 +1,9 @@
 //! The examples: each text gives its stored listing, by the model and by the
 //! engine, and its stored table; the five-year sheet is that of its formula.
+//! The book's listing is added here once more.
 
 use lavroudem_model::deck::listing;
+use lavroudem_tool::book;
 use lavroudem_tool::table::table;
 use lavroudem_tool::text::{assemble, disassemble};
 use std::fmt::Write;
@@ -9,6 +11,9 @@ use std::fs;
 use std::path::{Path, PathBuf};
 
 const NAMES: [&str; 5] = ["worked", "five-year", "elapsed", "ledger", "refusals"];
+
+/// The text that is no deck.
+const BOOK: &str = "book";
 
 fn root() -> PathBuf {
     Path::new(env!("CARGO_MANIFEST_DIR")).join("..")
@@ -29,7 +34,7 @@ fn all_examples_are_tried() {
     let folder = fs::read_dir(root().join("examples")).unwrap();
     let files = folder.map(|entry| entry.unwrap().file_name().into_string().unwrap());
     let texts = files.filter(|file| file.ends_with(".txt"));
-    assert_eq!(texts.count(), NAMES.len());
+    assert_eq!(texts.count(), NAMES.len() + [BOOK].len());
 }
 
 #[test]
@@ -116,6 +121,80 @@ fn packed_coupons_are_those_of_the_comments() {
     assert!(!told.contains("\ncoupon packed "), "{told}");
     assert_eq!(assemble(&told), Ok(deck("ledger")));
 }
+
+// ---- the book
+
+/// Its positions, by a reader of their own.
+fn positions() -> Vec<(i128, i128)> {
+    let text = stored(BOOK, "txt");
+    let codes = text.lines().map(|line| line.split('#').next().unwrap());
+    let position = |code: &str| match code.split_whitespace().collect::<Vec<_>>()[..] {
+        [nominal, value] => Some((nominal.parse().unwrap(), value.parse().unwrap())),
+        _ => None,
+    };
+    codes.filter_map(position).collect()
+}
+
+/// All three figures are beyond 64 bits.
+#[test]
+fn the_books_listing_is_the_sum() {
+    let products = positions()
+        .into_iter()
+        .map(|(nominal, value)| nominal * value);
+    let (gains, losses): (Vec<i128>, Vec<i128>) = products.partition(|&product| product > 0);
+    let (gains, losses) = (gains.iter().sum::<i128>(), losses.iter().sum::<i128>());
+    let total = gains + losses;
+    assert_eq!(
+        stored(BOOK, "listing"),
+        format!("book 0 {total} {gains} {losses}\n")
+    );
+    let beyond = |figure: i128| figure.unsigned_abs() > u128::from(u64::MAX);
+    assert!(beyond(total) && beyond(gains) && beyond(losses));
+}
+
+#[cfg(feature = "engine")]
+#[test]
+fn the_books_listing_is_the_engines() {
+    let read = book::read(stored(BOOK, "txt").as_bytes()).unwrap();
+    let line = book::line_by(|room| {
+        let added = lavroudem::book(&read.nominals, &read.values, room);
+        added.map_err(|refusal| refusal.to_string())
+    });
+    assert_eq!(line, Ok(stored(BOOK, "listing").into_bytes()));
+}
+
+#[test]
+fn the_books_table_is_the_stored_one() {
+    let positions = positions().len();
+    let read = book::read(stored(BOOK, "txt").as_bytes()).unwrap();
+    assert_eq!(read.nominals.len(), positions);
+    let totals = book::totals(stored(BOOK, "listing").as_bytes(), positions).unwrap();
+    assert_eq!(totals.table(positions), stored(BOOK, "table"));
+}
+
+/// Each value is one that the deck named above it answers.
+#[test]
+fn the_books_values_are_those_of_decks() {
+    let text = stored(BOOK, "txt");
+    let mut listing = String::new();
+    let mut held = 0;
+    for line in text.lines() {
+        if let Some((before, _)) = line.split_once(".txt)") {
+            listing = stored(before.rsplit('(').next().unwrap(), "listing");
+        }
+        let code = line.split('#').next().unwrap();
+        let Some(value) = code.split_whitespace().nth(1) else {
+            continue;
+        };
+        let mut answers = listing.lines().filter(|line| line.starts_with("value 0 "));
+        let end = format!(" {value}");
+        assert!(answers.any(|answer| answer.ends_with(&end)), "{line}");
+        held += 1;
+    }
+    assert_eq!(held, positions().len());
+}
+
+// ---- the five-year sheet
 
 /// The sheet of `five-year` by the formulas of `examples/README.md`.
 fn five_year_sheet() -> String {

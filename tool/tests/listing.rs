@@ -62,7 +62,7 @@ fn a_line_of_no_listing_is_a_mistake() {
         assert_eq!(reason("open", &format!("{line}\n")), no_line(line));
     }
     assert_eq!(reason("open", "open 0\r\n"), no_line("open 0\\r"));
-    for number in [22, 18, -1, 25, 29, 30] {
+    for number in [22, 18, -1, 25, 28, 29, 30] {
         let refused = format!("line 1: no call of a deck is refused {number}");
         assert_eq!(reason("open", &format!("open {number}\n")), refused);
     }

@@ -355,9 +355,9 @@ fn a_byte_order_mark_is_skipped() {
     );
 }
 
-const UTF_16: &str = "line 1: this is UTF-16; a text deck is UTF-8";
+const UTF_16: &str = "line 1: this is UTF-16; a text is UTF-8";
 
-const UTF_32: &str = "line 1: this is UTF-32; a text deck is UTF-8";
+const UTF_32: &str = "line 1: this is UTF-32; a text is UTF-8";
 
 const NEARLY_TEXT: [(&[u8], &str); 10] = [
     (

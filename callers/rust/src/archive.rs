@@ -72,6 +72,12 @@ struct Unpacked {
     coupon: u64,
 }
 
+#[repr(C)]
+struct Booked {
+    refusal: u8,
+    length: usize,
+}
+
 extern "C" {
     fn lavroudem_version() -> u64;
     fn lavroudem_issue(register: *mut u8, register_length: usize, number: u8) -> u8;
@@ -141,6 +147,14 @@ extern "C" {
     ) -> u8;
     fn lavroudem_read_packed(image: *const u8, image_length: usize) -> Unpacked;
     fn lavroudem_write_packed(image: *mut u8, image_length: usize, coupon: u64) -> u8;
+    fn lavroudem_book(
+        nominals: *const i64,
+        nominals_length: usize,
+        values: *const i64,
+        values_length: usize,
+        out: *mut u8,
+        out_length: usize,
+    ) -> Booked;
     fn lavroudem_deck_room(deck_length: usize) -> usize;
     fn lavroudem_run_deck(
         deck: *const u8,
@@ -404,6 +418,51 @@ pub fn write_packed(image: &mut [u8], coupon: u64) -> Result<(), Refusal> {
     // SAFETY: pointer and length are those of one slice, lent to be written.
     let refusal = unsafe { lavroudem_write_packed(image.as_mut_ptr(), image.len(), coupon) };
     answer(refusal, ())
+}
+
+/// Adds up a book: writes its line to the start of `out`, which has
+/// [`BOOK_LENGTH`](crate::BOOK_LENGTH) bytes, and gives the length of the line.
+/// The bytes after it stay as they were.
+///
+/// Position k is entry k of both lists, a nominal in pools and a net value. It
+/// is worth their product, exactly. The line has what all positions are worth,
+/// what those above 0 are, and what those below 0 are, in ten-millionths of a
+/// unit; [`book_totals`](crate::book_totals) gives these as numbers.
+///
+/// Refusals 2, where `out` has another length, and 28, where one list is longer
+/// than the other, both are longer than [`MAX_POSITIONS`](crate::MAX_POSITIONS),
+/// or an entry is further from 0 than [`MAX_NOMINAL`](crate::MAX_NOMINAL) or
+/// [`MAX_NET_VALUE`](crate::MAX_NET_VALUE); then all of `out` stays as it was.
+///
+/// ```
+/// use lavroudem::{book, Refusal};
+///
+/// let mut out = [0; lavroudem::BOOK_LENGTH];
+/// let length = book(&[1_000_000, -2], &[100_000_000_000_000_000, 7], &mut out)?;
+/// let line = b"book 0 99999999999999999999986 100000000000000000000000 -14\n";
+/// assert_eq!(out[..length], *line);
+///
+/// let refused = book(&[1_000_001], &[0], &mut out);
+/// assert_eq!(refused, Err(Refusal::Book));
+/// assert_eq!(out[..length], *line);
+/// # Ok::<(), Refusal>(())
+/// ```
+#[inline]
+pub fn book(nominals: &[i64], values: &[i64], out: &mut [u8]) -> Result<usize, Refusal> {
+    same_version();
+    // SAFETY: each pointer and length are those of one slice, and only `out`
+    // is written, which is lent for that and so overlaps nothing.
+    let booked = unsafe {
+        lavroudem_book(
+            nominals.as_ptr(),
+            nominals.len(),
+            values.as_ptr(),
+            values.len(),
+            out.as_mut_ptr(),
+            out.len(),
+        )
+    };
+    answer(booked.refusal, booked.length)
 }
 
 /// The bytes that must be lent for the listing of a deck of so many bytes.

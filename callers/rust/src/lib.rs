@@ -42,25 +42,31 @@
 //! A [`Sheet`] keeps its numbers. [`Sheet::open`] gives an [`OpenWalk`], which
 //! keeps the sheet, the walk and its rows together. A [`KeptRegister`] keeps
 //! the register in a file, over a power loss too. [`read_packed`] and
-//! [`write_packed`] take coupons from a ledger and to it. The module [`lent`]
-//! has the calls as the engine has them, for programs that keep their own rows.
+//! [`write_packed`] take coupons from a ledger and to it. [`book_totals`] adds
+//! up the positions of a book, and [`book`] does so as a line of text. The
+//! module [`lent`] has the calls as the engine has them, for programs that keep
+//! their own rows.
 //!
 //! Units: money is in billionths of the pool; recovery, hazards and discounts
 //! in billionths; accruals and elapsed fractions in billionths of a year;
-//! coupons in thousandths of a basis point a year; hedge ratios in millionths.
+//! coupons in thousandths of a basis point a year; hedge ratios in millionths;
+//! nominals of a book in pools; net values and totals of a book in ten-millionths
+//! of a unit.
 
 mod archive;
 mod kept;
 mod open_walk;
 mod refusal;
 mod sheet;
+mod totals;
 mod walk;
 
-pub use archive::{issue, read_packed, withdraw, write_packed};
+pub use archive::{book, issue, read_packed, withdraw, write_packed};
 pub use kept::{KeptError, KeptRegister, RegisterFile, RegisterStore};
 pub use open_walk::OpenWalk;
 pub use refusal::Refusal;
 pub use sheet::{Lists, Pool, Sheet};
+pub use totals::{book_totals, BookTotals};
 pub use walk::{Value, Walk};
 
 /// The calls over lent lists, as the engine has them.
@@ -77,7 +83,7 @@ pub mod lent {
 
 /// The version of the archive that this crate is written for, and of its C
 /// header. The first call panics on an archive of another one.
-pub const VERSION: u64 = 5;
+pub const VERSION: u64 = 6;
 
 /// The whole pool in units; also the 1 of recovery, hazards and discounts.
 pub const ONE: u64 = 1_000_000_000;
@@ -96,6 +102,16 @@ pub const MAX_DECK: usize = 65_536;
 
 /// The bytes of a packed coupon, two decimal digits each.
 pub const PACKED_LENGTH: usize = 4;
+
+/// The most positions of a book.
+pub const MAX_POSITIONS: usize = 4_096;
+/// Of a position, on either side of 0, in pools.
+pub const MAX_NOMINAL: i64 = 1_000_000;
+/// Of a position, on either side of 0. Those that a value call gives are
+/// within it.
+pub const MAX_NET_VALUE: i64 = 200_000_000_000_000_000;
+/// The bytes that are lent for the line of a book.
+pub const BOOK_LENGTH: usize = 96;
 
 /// A register has one byte for each sheet number.
 pub const REGISTER_LENGTH: usize = 256;

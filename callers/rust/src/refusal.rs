@@ -76,6 +76,10 @@ refusals! {
     Pool, 1, "pool";
     /// A list has another length than it should.
     Length, 2, "length";
+    /// The lists of a book are of unlike length or have more than
+    /// [`MAX_POSITIONS`](crate::MAX_POSITIONS) entries, or a nominal or net
+    /// value is out of its range.
+    Book, 28, "book";
     /// Above 1.
     Recovery, 3, "recovery";
     /// Attachment points are not strictly rising, or above 1.

@@ -21,6 +21,10 @@ fn limits_and_bytes_are_the_same() {
         ("MAX_COUPON", MAX_COUPON),
         ("MAX_DECK", MAX_DECK as u64),
         ("PACKED_LENGTH", PACKED_LENGTH as u64),
+        ("MAX_POSITIONS", MAX_POSITIONS as u64),
+        ("MAX_NOMINAL", MAX_NOMINAL as u64),
+        ("MAX_NET_VALUE", MAX_NET_VALUE as u64),
+        ("BOOK_LENGTH", BOOK_LENGTH as u64),
         ("REGISTER_LENGTH", REGISTER_LENGTH as u64),
     ];
     for (name, number) in numbers {
@@ -44,7 +48,9 @@ fn defined(name: &str) -> &str {
 
 /// The refusals in the order of their checks, with gaps in the numbers.
 fn checked() -> impl Iterator<Item = u8> {
-    (1..=4)
+    (1..=2)
+        .chain([28])
+        .chain(3..=4)
         .chain([25])
         .chain(5..=7)
         .chain([21, 30])
@@ -65,7 +71,7 @@ fn refusals_are_the_same() {
         assert!(found, "{entry}");
     }
     assert_eq!(Refusal::from_number(0), None);
-    for number in (22..=24).chain(26..=29).chain(31..=u8::MAX) {
+    for number in (22..=24).chain([26, 27, 29]).chain(31..=u8::MAX) {
         assert_eq!(Refusal::from_number(number), Some(Refusal::Other(number)));
     }
 }
@@ -153,7 +159,7 @@ fn every_exported_function_is_declared() {
         let declaration = declaration(function);
         assert!(header.contains(&declaration), "{declaration}");
     }
-    assert_eq!(functions.len(), 14);
+    assert_eq!(functions.len(), 15);
 }
 
 /// The structs of the exported functions, each in the crate that owns it.
@@ -171,6 +177,7 @@ fn every_exported_struct_is_declared() {
         ("returns", "Valued"),
         ("returns", "Hedged"),
         ("returns", "Unpacked"),
+        ("returns", "Booked"),
     ];
     for (owner, name) in structs {
         let start = format!("#[repr(C)]\npub struct {name} {{");
@@ -236,7 +243,7 @@ fn struct_declaration(name: &str, fields: &str) -> String {
 /// The header says what the numbers of an answer are.
 fn field_called<'a>(answer: &str, field: &'a str) -> &'a str {
     match (answer, field) {
-        ("Opened" | "Moved" | "Valued" | "Hedged" | "Unpacked", "number") => "refusal",
+        ("Opened" | "Moved" | "Valued" | "Hedged" | "Unpacked" | "Booked", "number") => "refusal",
         ("Valued", "default") => "default_leg",
         ("Valued", "premium") => "premium_leg",
         ("Valued", "net") => "net_value",

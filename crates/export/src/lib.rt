@@ -11,9 +11,11 @@ ghost use Rattle.walk.specs.Answers.{saidOf, saidBy};
 ghost use Rattle.rows.specs.Rows.{rowsOf};
 ghost use Rattle.walk.specs.Calls.{openCall, backCall, valueCall, ratioCall, forwardCall};
 ghost use Rattle.packed.specs.Promise.{ours};
+ghost use Rattle.book.specs.Promise.{ours as ourBook};
 ghost use Rattle.export.specs.Bytes.{bytesIn};
 ghost use Rattle.returns.specs.Returns.{opened, moved, valued, hedged, returned};
 use deck::Ran;
+use returns::Booked;
 use returns::Hedged;
 use returns::Moved;
 use returns::Opened;
@@ -23,19 +25,19 @@ use sheet::Sheet;
 use walk::Walk;
 
 // The version of these calls, raised when one of them, a struct or a number changes; 1 had no function that tells it.
-const VERSION: u64 = 5;
+const VERSION: u64 = 6;
 
 #[no_mangle]
 pub extern "C" fn lavroudem_version() -> u64
-    ensures { λ r. ⌜ r ≡ 5 ⌝ }
+    ensures { λ r. ⌜ r ≡ 6 ⌝ }
 {
     VERSION
 }
 
 // The same by name, which a program that is built for another version does not find.
 #[no_mangle]
-pub extern "C" fn lavroudem_version_5() -> u64
-    ensures { λ r. ⌜ r ≡ 5 ⌝ }
+pub extern "C" fn lavroudem_version_6() -> u64
+    ensures { λ r. ⌜ r ≡ 6 ⌝ }
 {
     VERSION
 }
@@ -197,6 +199,20 @@ pub extern "C" fn lavroudem_write_packed(image: &mut [u8], coupon: u64) -> u8
     ensures leaves { λ _. ⌜ now (image .exit) ≡ ours .write (now (image .entry)) coupon .left ⌝ }
 {
     packed::writing_number(packed::write(image, coupon))
+}
+
+// Writes the exact totals of a book, in one line, at the start of what is lent.
+#[no_mangle]
+pub extern "C" fn lavroudem_book(nominals: &[i64], values: &[i64], out: &mut [u8]) -> Booked
+    ensures said { λ r. ⌜ r .number ≡ ourBook (now (nominals .entry)) (now (values .entry)) (now (out .entry)) .number ⌝ }
+    ensures told { λ r. ⌜ r .length ≡ getD (ourBook (now (nominals .entry)) (now (values .entry)) (now (out .entry)) .values) 0 0 ⌝ }
+    ensures leaves { λ _. ⌜ now (out .exit) ≡ ourBook (now (nominals .entry)) (now (values .entry)) (now (out .entry)) .left ⌝ }
+{
+    let report = book::total(nominals, values, out);
+    Booked {
+        number: book::report_number(report),
+        length: book::bytes_in(report),
+    }
 }
 
 // The room that the listing of a deck of so many bytes may take.

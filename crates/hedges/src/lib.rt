@@ -57,7 +57,7 @@ pub fn magnitude(x: i64) -> u64
 }
 
 // Whether one of the two is negative and the other is not.
-fn unlike_signs(x: i64, y: i64) -> bool
+pub fn unlike_signs(x: i64, y: i64) -> bool
     ensures { λ r. ⌜ r ≡ unlike (negative x) (negative y) ⌝ }
 {
     if x < 0 { y >= 0 } else { y < 0 }

@@ -45,6 +45,13 @@ pub struct Unpacked {
     pub coupon: u64,
 }
 
+// What a book answers: the bytes of its line, 0 if refused.
+#[repr(C)]
+pub struct Booked {
+    pub number: u8,
+    pub length: usize,
+}
+
 // 0, or the number of a refusal.
 pub fn number_in(answer: Answer) -> u8
     ensures { λ r. ⌜ r ≡ saidOf answer .number ⌝ }

@@ -253,4 +253,9 @@ fn main() {
     trial_entries::cut_writes();
     trial_packed::readings();
     trial_packed::writings();
+    trial_book::signs();
+    trial_book::limbs();
+    trial_book::lengths();
+    trial_book::ranges();
+    trial_book::rooms();
 }

@@ -5,6 +5,7 @@
 //! processor time of the thread, so that other work on the machine counts
 //! little. Rows and walk are made anew before each run, outside the clock.
 
+use lavroudem_model::book::{LINE_ROOM, MAX_NOMINAL, MAX_POSITIONS, MAX_VALUE};
 use lavroudem_model::deck::{listing_by, Calls, CALLS, MAX_DECK};
 use lavroudem_model::refusal::Refusal;
 use lavroudem_model::register;
@@ -31,6 +32,8 @@ struct Desk {
     default_row: Vec<u64>,
     premium_row: Vec<u64>,
     row: Vec<u64>,
+    nominals: Vec<i64>,
+    values: Vec<i64>,
     deck: Vec<u8>,
     out: Vec<u8>,
 }
@@ -45,6 +48,8 @@ struct Side {
     deck: fn(&mut Desk),
     /// Written to the four bytes, and read from them.
     packed: fn(&mut [u8], u64) -> Result<u64, u8>,
+    /// The line of a book at the start of the desk's bytes.
+    book: fn(&mut Desk) -> Result<usize, u8>,
 }
 
 const ENGINE: Side = Side {
@@ -63,6 +68,10 @@ const ENGINE: Side = Side {
     packed: |image, coupon| {
         lavroudem::write_packed(image, coupon).map_err(|refusal| refusal.number())?;
         lavroudem::read_packed(image).map_err(|refusal| refusal.number())
+    },
+    book: |d| {
+        let out = &mut d.out[..LINE_ROOM];
+        lavroudem::book(&d.nominals, &d.values, out).map_err(|refusal| refusal.number())
     },
 };
 
@@ -83,6 +92,10 @@ const RUST: Side = Side {
     packed: |image, coupon| {
         fast::write_packed(image, coupon).map_err(|refusal| refusal.number())?;
         fast::read_packed(image).map_err(|refusal| refusal.number())
+    },
+    book: |d| {
+        let out = &mut d.out[..LINE_ROOM];
+        fast::book(&d.nominals, &d.values, out).map_err(|refusal| refusal.number())
     },
 };
 
@@ -129,6 +142,8 @@ fn main() {
     ]);
     println!("# {PACKED_COUPONS} coupons, each written and read");
     compare(&[("packed", &sheet(1, 1, 1), packed)]);
+    println!("# {SHORT_CALLS} books of {MAX_POSITIONS} positions");
+    compare(&[("book", &sheet(1, 1, 1), book)]);
     compare_growth();
 }
 
@@ -199,6 +214,14 @@ fn with_elapsed(sheet: &Sheet) -> Sheet {
     }
 }
 
+/// A full book's numbers of either sign, all through their range.
+fn through(most: i64, step: i64) -> Vec<i64> {
+    let range = 2 * i128::from(most) + 1;
+    (1..=MAX_POSITIONS as i128)
+        .map(|place| (place * i128::from(step) % range) as i64 - most)
+        .collect()
+}
+
 /// No deck brings several periods.
 fn deck_of(sheet: &Sheet) -> Vec<u8> {
     match sheet.starts[..] {
@@ -229,6 +252,8 @@ fn opened(sheet: &Sheet) -> Desk {
         default_row,
         premium_row,
         row: vec![0; sheet.names + 1],
+        nominals: through(MAX_NOMINAL, 611_953),
+        values: through(MAX_VALUE, 123_456_789_012_345_677),
         deck: deck_of(sheet),
         out: vec![0; engine::deck_room(MAX_DECK)],
     }
@@ -359,5 +384,12 @@ fn packed(side: &Side, desk: &mut Desk) {
     for (image, place) in images.zip(1..=PACKED_COUPONS) {
         let coupon = black_box(place * (10_000_000 / PACKED_COUPONS));
         assert_eq!((side.packed)(image, coupon), Ok(coupon));
+    }
+}
+
+fn book(side: &Side, desk: &mut Desk) {
+    for _ in 0..SHORT_CALLS {
+        let length = (side.book)(black_box(desk));
+        black_box(length).unwrap();
     }
 }

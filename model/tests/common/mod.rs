@@ -1,10 +1,11 @@
 //! Plain sheets for the trials, by shape; random ones come by seed. A desk
 //! has what the calls are lent, and edges are changes of one; the writes of a
-//! deck are read off its lines.
+//! deck are read off its lines. Books are lists of positions.
 
 // Each test file is built by itself and uses only a part of this.
 #![allow(dead_code, unused_imports)]
 
+pub mod books;
 pub mod desk;
 pub mod edges;
 pub mod writes;

@@ -1,6 +1,7 @@
 //! Reading a page: its tables, blocks, code spans and sections. What is not as
 //! expected is told, not panicked over, so that a changed page can be tried.
 
+pub mod book;
 pub mod formulas;
 pub mod limits;
 pub mod orders;

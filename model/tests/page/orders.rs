@@ -1,6 +1,7 @@
 //! The orders in which calls check their refusals: of any two of an order, what
 //! breaks both is answered with the first.
 
+use super::book::refused_book;
 use super::packed::{refused_reading, refused_writing};
 use super::{ensure, entries, same, table, Found};
 use crate::common::desk::Call;
@@ -138,19 +139,25 @@ pub fn orders_are_the_models(page: &str) -> Found {
         ("forward", Call::Forward),
     ];
     let rows = table(page, "| Call | Checks, in this order |")?;
-    same(rows.len(), calls.len() + 4, "orders")?;
+    same(rows.len(), calls.len() + 5, "orders")?;
     for (row, (name, call)) in rows.iter().zip(calls) {
         let numbers = faults(call).into_keys().collect();
         is_order(row, name, numbers, &|numbers| refused(call, numbers))?;
     }
     is_order(&rows[7], "read packed", vec![2, 8, 30], &refused_reading)?;
     is_order(&rows[8], "write packed", vec![2, 8], &refused_writing)?;
+    is_order(&rows[9], "book", vec![2, 28], &refused_book)?;
     let of_a_call = faults(Call::Forward).into_keys();
     // A deck has no other starts than the one.
     let of_a_deck = of_a_call.filter(|&number| number != Refusal::Periods.number());
     let in_a_deck = of_a_deck.chain([14]).collect();
-    is_order(&rows[9], "forward in a deck", in_a_deck, &refused_in_a_deck)?;
-    is_order(&rows[10], "a command of a deck", vec![18, 19, 20], &stopped)
+    is_order(
+        &rows[10],
+        "forward in a deck",
+        in_a_deck,
+        &refused_in_a_deck,
+    )?;
+    is_order(&rows[11], "a command of a deck", vec![18, 19, 20], &stopped)
 }
 
 /// A row has these numbers, in the order in which they are answered.

@@ -18,7 +18,7 @@ use lavroudem_model::worked;
 use std::collections::BTreeSet;
 
 /// The sheet of 'Three names'.
-fn three_names() -> Sheet {
+pub fn three_names() -> Sheet {
     Sheet {
         number: 5,
         names: 3,

@@ -3,13 +3,16 @@
 use lavroudem_model::deck::MAX_DECK;
 use lavroudem_tool::course::course;
 use lavroudem_tool::form::Form;
+use lavroudem_tool::program::{
+    at_fault, bytes_of, ended, failure, name, not_whole, print, read_all, tell, Done, Failure,
+    FILE_FAULT,
+};
 use lavroudem_tool::text::{disassemble, read, Assembled, Lines};
-use lavroudem_tool::{diagnosis, input, listing, lock, output, quote, table};
+use lavroudem_tool::{book, diagnosis, input, listing, lock, table};
 use std::env;
 use std::ffi::{OsStr, OsString};
-use std::fs::{self, File};
-use std::io::{self, Read, Write};
-use std::os::fd::AsFd;
+use std::fs;
+use std::io;
 use std::path::Path;
 use std::process::ExitCode;
 
@@ -22,6 +25,11 @@ usage: deck assemble [--text | --binary] [--into FOLDER] FILE
        deck show [--table] [--strict] [--lines LINES] [--name NAME] DECK LISTING
            the listing, or its table, if it is whole and that of the deck; then, on standard
            error, why the sheet was refused or the deck stopped, by the lines of NAME
+       deck positions [--into FOLDER] FILE
+           the positions of a book's text, one a line. Into a folder: as its file `positions`
+       deck total [--table] POSITIONS LINE
+           the engine's line of a book, or its table, if it is whole and can be that of the
+           positions
        deck lock
            locks standard input, a file that the caller keeps open; waits for another who has it
        deck version
@@ -31,39 +39,13 @@ fault, 2 wrong usage, 4 the deck stopped (its listing is shown), 5 the output wa
 listing is not whole (nothing is shown of it), 6 with --strict: a call was refused.
 ";
 
-const FILE_FAULT: u8 = 1;
-const WRONG_USAGE: u8 = 2;
 const STOPPED: u8 = 4;
-const OUTPUT_LOST: u8 = 5;
 const REFUSED: u8 = 6;
-
-/// A status other than 0, and what to say on standard error.
-struct Failure {
-    status: u8,
-    words: String,
-}
-
-/// The status of what was done.
-type Done = Result<u8, Failure>;
 
 fn main() -> ExitCode {
     let words: Vec<OsString> = env::args_os().skip(1).collect();
-    let Some(done) = Request::parse(&words).and_then(|request| request.run()) else {
-        tell(USAGE);
-        return ExitCode::from(WRONG_USAGE);
-    };
-    match done {
-        Ok(status) => ExitCode::from(status),
-        Err(Failure { status, words }) => {
-            tell(&format!("{words}\n"));
-            ExitCode::from(status)
-        }
-    }
-}
-
-/// Says it on standard error, if that is there: the status tells it anyway.
-fn tell(words: &str) {
-    let _ = io::stderr().write_all(words.as_bytes());
+    let done = Request::parse(&words).and_then(|request| request.run());
+    ended(done, USAGE)
 }
 
 /// The words of the command line.
@@ -116,6 +98,14 @@ impl<'a> Request<'a> {
                 self.only(&["--table", "--strict"], &["--lines", "--name"])?;
                 Some(self.show(deck, listing))
             }
+            ("positions", &[file]) => {
+                self.only(&[], &["--into"])?;
+                Some(self.positions(file))
+            }
+            ("total", &[positions, line]) => {
+                self.only(&["--table"], &[])?;
+                Some(self.total(positions, line))
+            }
             ("lock", []) => self.only(&[], &[]).map(|()| locked()),
             ("version", []) => self.only(&[], &[]).map(|()| version()),
             _ => None,
@@ -165,10 +155,7 @@ impl<'a> Request<'a> {
         let bytes = bytes_of(printed, read_all)?;
         let lines = self.lines()?;
         let course = course(&deck);
-        let not_whole = |mistake| Failure {
-            status: OUTPUT_LOST,
-            ..at_fault(printed, &mistake)
-        };
+        let not_whole = |mistake| not_whole(printed, &mistake);
         let answers = listing::read(&course, &bytes).map_err(not_whole)?;
         let findings = diagnosis::findings(&deck, &course, &answers);
         let refused = answers.iter().any(|answer| answer.is_err());
@@ -185,6 +172,26 @@ impl<'a> Request<'a> {
             None if refused && self.has("--strict") => REFUSED,
             None => 0,
         })
+    }
+
+    fn positions(&self, file: &OsStr) -> Done {
+        let positions = book_of(file)?.to_text();
+        match self.value("--into") {
+            Some(folder) => write_file(Path::new(folder), "positions", positions.as_bytes()),
+            None => print(positions.as_bytes()),
+        }
+    }
+
+    /// Prints the line of a book or its table.
+    fn total(&self, positions: &OsStr, line: &OsStr) -> Done {
+        let positions = book_of(positions)?.nominals.len();
+        let bytes = bytes_of(line, read_all)?;
+        let totals = book::totals(&bytes, positions).map_err(|fault| not_whole(line, &fault))?;
+        if self.has("--table") {
+            print(totals.table(positions).as_bytes())
+        } else {
+            print(&bytes)
+        }
     }
 
     fn lines(&self) -> Result<Lines, Failure> {
@@ -217,55 +224,18 @@ fn version() -> Done {
     print(concat!("lavroudem-tool ", env!("CARGO_PKG_VERSION"), "\n").as_bytes())
 }
 
+fn book_of(file: &OsStr) -> Result<book::Book, Failure> {
+    let bytes = bytes_of(file, input::read_text)?;
+    book::read(&bytes).map_err(|mistake| at_fault(file, &mistake))
+}
+
 fn write_into(folder: &Path, assembled: &Assembled) -> Done {
-    let write = |name: &str, bytes: &[u8]| {
-        let file = folder.join(name);
-        fs::write(&file, bytes).map_err(|fault| Failure {
-            status: OUTPUT_LOST,
-            ..at_fault(file.as_os_str(), &fault)
-        })
-    };
-    write("deck", &assembled.deck)?;
-    write("lines", assembled.lines.to_text().as_bytes())?;
-    Ok(0)
+    write_file(folder, "deck", &assembled.deck)?;
+    write_file(folder, "lines", assembled.lines.to_text().as_bytes())
 }
 
-/// The bytes of a file, or of standard input, by a reader of either.
-fn bytes_of(
-    file: &OsStr,
-    read: impl Fn(&mut dyn Read) -> io::Result<Vec<u8>>,
-) -> Result<Vec<u8>, Failure> {
-    // The library's own handle takes a descriptor that cannot be read for an empty file.
-    let open = if file == "-" {
-        io::stdin().as_fd().try_clone_to_owned().map(File::from)
-    } else {
-        File::open(file)
-    };
-    let bytes = open.and_then(|mut open| read(&mut open));
-    bytes.map_err(|fault| at_fault(file, &fault))
-}
-
-fn read_all(file: &mut dyn Read) -> io::Result<Vec<u8>> {
-    let mut bytes = Vec::new();
-    file.read_to_end(&mut bytes).map(|_| bytes)
-}
-
-fn print(bytes: &[u8]) -> Done {
-    let lost = |fault| failure(OUTPUT_LOST, format!("standard output: {fault}"));
-    output::print(bytes).map_err(lost).map(|()| 0)
-}
-
-fn failure(status: u8, words: String) -> Failure {
-    Failure { status, words }
-}
-
-fn at_fault(file: &OsStr, fault: &dyn std::fmt::Display) -> Failure {
-    failure(FILE_FAULT, format!("{}: {fault}", name(file)))
-}
-
-fn name(file: &OsStr) -> String {
-    if file == "-" {
-        return "standard input".to_string();
-    }
-    quote::name(&file.to_string_lossy())
+fn write_file(folder: &Path, name: &str, bytes: &[u8]) -> Done {
+    let file = folder.join(name);
+    let lost = |fault| not_whole(file.as_os_str(), &fault);
+    fs::write(&file, bytes).map_err(lost).map(|()| 0)
 }

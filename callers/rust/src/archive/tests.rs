@@ -5,6 +5,7 @@ mod spans;
 
 use super::*;
 use crate::sheet::Lists;
+use crate::{BOOK_LENGTH, MAX_NOMINAL};
 use std::mem::{offset_of, size_of};
 
 const HEADER: &str = include_str!("../../../c/lavroudem.h");
@@ -36,6 +37,7 @@ fn the_header_has_the_same_layout() {
         layout!(Valued lavroudem_valued: refusal default_leg premium_leg net_value walk),
         layout!(Hedged lavroudem_hedged: refusal ratio walk),
         layout!(Unpacked lavroudem_unpacked: refusal coupon),
+        layout!(Booked lavroudem_booked: refusal length),
     ]
     .concat();
     let asserts =
@@ -92,6 +94,34 @@ fn the_coupon_of_a_refused_image_is_0() {
     }
 }
 
+/// A buffer one byte short, with a fault of the lists or without; lists of
+/// unlike length, and a nominal out of range.
+#[test]
+fn the_length_of_a_refused_book_is_0() {
+    let refused: [(u8, &[i64], &[i64], usize); 4] = [
+        (2, &[1], &[1], BOOK_LENGTH - 1),
+        (2, &[1, 2], &[1], BOOK_LENGTH - 1),
+        (28, &[1, 2], &[1], BOOK_LENGTH),
+        (28, &[MAX_NOMINAL + 1], &[1], BOOK_LENGTH),
+    ];
+    for (refusal, nominals, values, length) in refused {
+        let mut out = vec![0; length];
+        // SAFETY: each pointer and length are those of one slice, and only
+        // `out` is lent to be written.
+        let booked = unsafe {
+            lavroudem_book(
+                nominals.as_ptr(),
+                nominals.len(),
+                values.as_ptr(),
+                values.len(),
+                out.as_mut_ptr(),
+                out.len(),
+            )
+        };
+        assert_eq!((booked.refusal, booked.length), (refusal, 0));
+    }
+}
+
 #[test]
 fn an_archive_of_this_version_is_taken() {
     expect_version(VERSION);
@@ -114,5 +144,5 @@ fn every_call_looks_at_the_version() {
         let name = call.split(['(', '<']).next().unwrap();
         assert!(body.starts_with("    same_version();\n"), "{name}");
     }
-    assert_eq!(calls.len(), 12);
+    assert_eq!(calls.len(), 13);
 }
