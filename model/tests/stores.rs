@@ -381,7 +381,7 @@ const IMAGE_WRITERS: [(&str, &str); 3] = [
         "packed::writing_number(packed::write(image, coupon))",
     ),
     (
-        "packed/src/lib.rt: store_image",
+        "images/src/lib.rt: store_image",
         "image[0] = digit_pair(coupon / 1_000_000);
          image[1] = digit_pair(coupon / 10_000 % 100);
          image[2] = digit_pair(coupon / 100 % 100);
@@ -414,6 +414,13 @@ fn a_refused_coupon_stores_nothing() {
     for (place, body) in IMAGE_WRITERS {
         assert_eq!(function(&functions, place).body, words(body), "{place}");
     }
+    let stores = |it: &&Function| it.body.iter().any(|word| word == "store_image");
+    let callers: Vec<&str> = functions
+        .iter()
+        .filter(stores)
+        .map(|it| it.place.as_str())
+        .collect();
+    assert_eq!(callers, [IMAGE_WRITERS[2].0]);
     let judge = function(&functions, IMAGE_JUDGE);
     assert_eq!(judge.kind_of("image"), Some("& [ u8 ]"));
 }

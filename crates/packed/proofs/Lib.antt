@@ -1,4 +1,3 @@
-pub mod Images
 pub mod Answers
 pub mod Promise
 pub mod Refuted

@@ -8,10 +8,11 @@ use native.Mathlib.Decide.{ℕ-discrete}
 use borrow.Author.Tests.{ne-eqb}
 use lib.Dec.{eqb, ltb}
 use lib.ListN.{length, getD}
+use Rattle.images.specs.Images.{twoDigits, packedValue, aboveNine, digitsBad, digitPair, imageOf}
+use Rattle.images.proofs.Images.{four-bytes}
 use Rattle.packed.specs.declared.Reading.the-variants as Reading
 use Rattle.packed.specs.declared.Writing.the-variants as Writing
-use Rattle.packed.specs.Images.{twoDigits, packedValue, digitPair, imageOf}
-use Rattle.packed.specs.Answers.{readingNumber, readingValues, writingNumber, leftBy, aboveNine, digitsBad}
+use Rattle.packed.specs.Answers.{readingNumber, readingValues, writingNumber, leftBy}
 use Rattle.packed.specs.Promise.{ReadResult, WriteResult, Codec, Keeps, ours}
 use Rattle.packed.specs.Refuted.{leastFirst, halvesExchanged, binaryRead, lastByteLost, limitFirst, digitFirst, anyLength, fiveTaken, anyDigit}
 use Rattle.packed.specs.Refuted.{digitTen, digitNineRefused, highUnchecked, lowUnchecked}
@@ -20,7 +21,6 @@ use Rattle.packed.specs.Refuted.{halvesExchangedWritten, notWritten, lim
 use Rattle.packed.specs.Refuted.{judgedRead, withValue, highAbove, lowAbove}
 use Rattle.packed.specs.Refuted.{checkingDigits, limitedTo, judgedWrite, withImage, limitedWritingTo}
 use Rattle.packed.specs.Refuted.{NoneKeeps, Unchanged}
-use Rattle.packed.proofs.Images.{four-bytes}
 use Rattle.packed.proofs.Promise.{ours-alone}
 
 -- What a reading tells, as one number: a coupon is counted from 1.

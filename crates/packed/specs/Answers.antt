@@ -1,14 +1,14 @@
 -- What reading and writing a packed coupon answer and leave (T-14). 30, digit, is a number of that request; 2 and 8 are document 01's.
-use Prim.Native.Nat.{ℕ, _/_, _%_}
-use mathlib.Core.Bool.{Bool, cond, _||_}
+use Prim.Native.Nat.{ℕ}
+use mathlib.Core.Bool.{cond}
 use mathlib.Core.List.{List, [], _∷_}
 use lib.Dec.{eqb, ltb}
 use lib.ListN.{length, getD}
+use Rattle.images.specs.Images.{packedValue, digitsBad, imageOf}
 use Rattle.packed.specs.declared.Reading.{Reading}
 use Rattle.packed.specs.declared.Reading.the-variants as Reading
 use Rattle.packed.specs.declared.Writing.{Writing}
 use Rattle.packed.specs.declared.Writing.the-variants as Writing
-use Rattle.packed.specs.Images.{packedValue, imageOf}
 
 -- The number of each answer, 0 if accepted, and the coupon of a reading: none if refused.
 abbrev pub readingNumber : Reading → ℕ
@@ -31,13 +31,6 @@ abbrev pub writingNumber : Writing → ℕ
 writingNumber Writing.Written = 0
 writingNumber Writing.Length = 2
 writingNumber Writing.OverLimit = 8
-
--- Whether a half byte is above 9, and whether one of four bytes has such a half.
-unfoldable pub aboveNine : ℕ → Bool
-aboveNine byte = ltb 9 (byte / 16) || ltb 9 (byte % 16)
-
-unfoldable pub digitsBad : List ℕ → Bool
-digitsBad image = aboveNine (getD image 0 0) || (aboveNine (getD image 1 0) || (aboveNine (getD image 2 0) || aboveNine (getD image 3 0)))
 
 -- 2, then 30, and only then 8.
 abbrev pub readAnswer : List ℕ → Reading

@@ -1,11 +1,11 @@
--- `packed::store_image` meets its contract: four bytes over four.
+-- `images::store_image` meets its contract: four bytes over four.
 use mathlib.Core.Path.{_≡_, _∙_, ap}
 use native.Mathlib.Omega.{arith}
 use borrow.Author.Needs.{needs}
-use Rattle.packed.specs.Images.{imageOf}
-use Rattle.packed.proofs.Images.{filled, same-four}
-use Rattle.packed.proofs.store_image.Statement.{statement}
-use Rattle.packed.proofs.store_image.Tie as tie
+use Rattle.images.specs.Images.{imageOf}
+use Rattle.images.proofs.Images.{filled, same-four}
+use Rattle.images.proofs.store_image.Statement.{statement}
+use Rattle.images.proofs.store_image.Tie as tie
 
 digit-pair-requires : tie.Need-digit-pair-requires
 digit-pair-requires c κs = search needs

@@ -1,8 +1,8 @@
--- `packed::two_digits` meets its contract.
+-- `images::two_digits` meets its contract.
 use borrow.Author.Needs.{needs}
-use Rattle.packed.specs.Images.{twoDigits}
-use Rattle.packed.proofs.two_digits.Statement.{statement}
-use Rattle.packed.proofs.two_digits.Tie as tie
+use Rattle.images.specs.Images.{twoDigits}
+use Rattle.images.proofs.two_digits.Statement.{statement}
+use Rattle.images.proofs.two_digits.Tie as tie
 
 cast-result : tie.Need-cast-result
 cast-result c = search needs

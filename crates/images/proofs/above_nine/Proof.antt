@@ -1,10 +1,10 @@
--- `packed::above_nine` meets its contract: by the high half byte, then by the low one.
+-- `images::above_nine` meets its contract: by the high half byte, then by the low one.
 use Prim.Native.Nat.{_/_}
 use native.Mathlib.Omega.{arith}
 use borrow.Author.Tests.{lt-ltb, le-ltb}
-use Rattle.packed.specs.Answers.{aboveNine}
-use Rattle.packed.proofs.above_nine.Statement.{statement}
-use Rattle.packed.proofs.above_nine.Tie as tie
+use Rattle.images.specs.Images.{aboveNine}
+use Rattle.images.proofs.above_nine.Statement.{statement}
+use Rattle.images.proofs.above_nine.Tie as tie
 
 returns : tie.Need-returns
 unfolding aboveNine

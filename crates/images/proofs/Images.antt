@@ -4,7 +4,7 @@ use mathlib.Core.Path.{_≡_, refl, sym, _∙_, ap}
 use mathlib.Core.List.{List, [], _∷_}
 use native.Mathlib.Omega.{arith}
 use lib.ListN.{length, getD, set}
-use Rattle.packed.specs.Images.{twoDigits, packedValue, Digits, IsImage, digitPair, imageOf, OneImage}
+use Rattle.images.specs.Images.{twoDigits, packedValue, Digits, IsImage, digitPair, imageOf, OneImage}
 
 -- ---- four bytes
 

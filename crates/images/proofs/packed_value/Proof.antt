@@ -1,8 +1,8 @@
--- `packed::packed_value` meets its contract.
+-- `images::packed_value` meets its contract.
 use borrow.Author.Needs.{needs}
-use Rattle.packed.specs.Images.{packedValue}
-use Rattle.packed.proofs.packed_value.Statement.{statement}
-use Rattle.packed.proofs.packed_value.Tie as tie
+use Rattle.images.specs.Images.{packedValue}
+use Rattle.images.proofs.packed_value.Statement.{statement}
+use Rattle.images.proofs.packed_value.Tie as tie
 
 shared-slice-read-two-digits : tie.Need-shared-slice-read-two-digits
 shared-slice-read-two-digits c = search needs

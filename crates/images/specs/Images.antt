@@ -1,7 +1,9 @@
 -- T-14, a coupon in packed decimal: four bytes of two decimal digits each, the most significant first, in thousandths of a basis point.
 use Prim.Native.Nat.{ℕ, _+_, _*_, _/_, _%_, _≤_, _<_}
 use mathlib.Core.Path.{_≡_}
+use mathlib.Core.Bool.{Bool, _||_}
 use mathlib.Core.List.{List, [], _∷_}
+use lib.Dec.{ltb}
 use lib.ListN.{length, getD}
 
 -- The number of a byte's two digits: the high half byte is the tens.
@@ -16,6 +18,13 @@ packedValue image =
 -- No half byte is above 9.
 abbrev pub Digits : List ℕ → Type 0
 Digits image = (i : ℕ) → i < length image → (getD image i 0 / 16 ≤ 9) × (getD image i 0 % 16 ≤ 9)
+
+-- Whether a half byte is above 9, and whether one of four bytes has such a half.
+unfoldable pub aboveNine : ℕ → Bool
+aboveNine byte = ltb 9 (byte / 16) || ltb 9 (byte % 16)
+
+unfoldable pub digitsBad : List ℕ → Bool
+digitsBad image = aboveNine (getD image 0 0) || (aboveNine (getD image 1 0) || (aboveNine (getD image 2 0) || aboveNine (getD image 3 0)))
 
 -- What it is to be an image of a coupon.
 pub record IsImage (coupon : ℕ) (image : List ℕ) : Type 0 where

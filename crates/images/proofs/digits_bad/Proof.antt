@@ -1,11 +1,11 @@
--- `packed::digits_bad` meets its contract, byte by byte.
+-- `images::digits_bad` meets its contract, byte by byte.
 use mathlib.Core.Path.{_≡_, sym, _∙_}
 use mathlib.Core.Bool.{false}
 use lib.ListN.{getD}
 use borrow.Author.Needs.{needs}
-use Rattle.packed.specs.Answers.{aboveNine, digitsBad}
-use Rattle.packed.proofs.digits_bad.Statement.{statement}
-use Rattle.packed.proofs.digits_bad.Tie as tie
+use Rattle.images.specs.Images.{aboveNine, digitsBad}
+use Rattle.images.proofs.digits_bad.Statement.{statement}
+use Rattle.images.proofs.digits_bad.Tie as tie
 
 -- the places: the start, seen from each byte but the last; and that byte, as it was told
 abbrev start : tie.After-above-nine → tie.Start

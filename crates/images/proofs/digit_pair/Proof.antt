@@ -1,8 +1,8 @@
--- `packed::digit_pair` meets its contract.
+-- `images::digit_pair` meets its contract.
 use borrow.Author.Needs.{needs}
-use Rattle.packed.specs.Images.{digitPair}
-use Rattle.packed.proofs.digit_pair.Statement.{statement}
-use Rattle.packed.proofs.digit_pair.Tie as tie
+use Rattle.images.specs.Images.{digitPair}
+use Rattle.images.proofs.digit_pair.Statement.{statement}
+use Rattle.images.proofs.digit_pair.Tie as tie
 
 mul-result : tie.Need-mul-result
 mul-result c = search needs
