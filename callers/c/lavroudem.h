@@ -7,8 +7,9 @@
  *
  * - It checks what it is lent in the order of the refusals below and answers
  *   the number of the first one met, or 0. A refused call changes nothing:
- *   register, rows, image and output keep every byte, the walk comes back as it
- *   was given, and the figures of the answer are 0, and so is a length.
+ *   register, rows, image, output, table and list keep every byte, the walk or
+ *   the place comes back as it was given, and the figures of the answer are 0,
+ *   and so is a length or a count.
  * - A list is lent as a pointer and the number of its entries. This the caller
  *   must see to, for no call can check it: the pointer is aligned for its
  *   entries and not NULL, even where the number is 0; the memory is there; and
@@ -50,13 +51,13 @@ extern "C" {
 
 /*
  * Of this header, raised when a call, a struct or a number in it changes. An
- * archive of another version is not linked: `lavroudem_version_6`, which the
+ * archive of another version is not linked: `lavroudem_version_7`, which the
  * archive of this version alone has, is named by whatever includes this header.
  * `lavroudem_version` answers the archive's version.
  */
-#define LAVROUDEM_VERSION 6
+#define LAVROUDEM_VERSION 7
 uint64_t lavroudem_version(void);
-uint64_t lavroudem_version_6(void);
+uint64_t lavroudem_version_7(void);
 
 #if defined(__has_attribute)
 #if __has_attribute(retain)
@@ -66,7 +67,7 @@ uint64_t lavroudem_version_6(void);
 #ifndef LAVROUDEM_STAYS
 #define LAVROUDEM_STAYS __attribute__((unused, used))
 #endif
-LAVROUDEM_STAYS static uint64_t (*const lavroudem_linked_version)(void) = lavroudem_version_6;
+LAVROUDEM_STAYS static uint64_t (*const lavroudem_linked_version)(void) = lavroudem_version_7;
 
 /* ---- limits */
 
@@ -83,6 +84,8 @@ LAVROUDEM_STAYS static uint64_t (*const lavroudem_linked_version)(void) = lavrou
 #define LAVROUDEM_MAX_NOMINAL 1000000 /* of a position, on either side of 0 */
 #define LAVROUDEM_MAX_NET_VALUE 200000000000000000 /* of a position, on either side of 0 */
 #define LAVROUDEM_BOOK_LENGTH 96 /* bytes that are lent for the line of a book */
+#define LAVROUDEM_MAX_WALKS 16 /* of a turn table */
+#define LAVROUDEM_MAX_PLACES 65535 /* of a list of turns */
 
 /* Entries of a row of the largest sheet, and of a forward row. */
 #define LAVROUDEM_MAX_ROW ((LAVROUDEM_MAX_TRANCHES + 1) * (LAVROUDEM_MAX_NAMES + 1))
@@ -122,6 +125,7 @@ enum lavroudem_refusal {
     LAVROUDEM_REFUSED_POOL = 1, /* names, steps or tranches 0 or too many */
     LAVROUDEM_REFUSED_LENGTH = 2, /* a list has another length than it should */
     LAVROUDEM_REFUSED_BOOK = 28, /* lists of unlike length or too long, or an entry out of range */
+    LAVROUDEM_REFUSED_TURNS = 29, /* a turn table, its place, steps left or list out of range */
     LAVROUDEM_REFUSED_RECOVERY = 3, /* above 1 */
     LAVROUDEM_REFUSED_ATTACHMENTS = 4, /* not strictly rising, or one above 1 */
     LAVROUDEM_REFUSED_PERIODS = 25, /* starts not strictly rising, not from 1, or one above steps */
@@ -158,7 +162,7 @@ static inline const char *lavroudem_word(unsigned refusal)
         "periods",
         "", "", /* 26 and 27 are none */
         "book",
-        "", /* 29 is none */
+        "turns",
         "digit",
     };
     return refusal < sizeof words / sizeof words[0] ? words[refusal] : "";
@@ -272,6 +276,12 @@ struct lavroudem_walk {
     size_t position; /* the step at which its rows stand; 0 is the root */
 };
 
+/* A record of a turn table. */
+struct lavroudem_turn {
+    struct lavroudem_walk walk;
+    uint16_t left; /* steps left, at most LAVROUDEM_MAX_STEPS */
+};
+
 /* In each answer `refusal` is LAVROUDEM_ACCEPTED or the number of a refusal. */
 
 struct lavroudem_opened {
@@ -307,6 +317,12 @@ struct lavroudem_unpacked {
 struct lavroudem_booked {
     uint8_t refusal;
     size_t length; /* bytes of the line, its line feed counted */
+};
+
+struct lavroudem_allotted {
+    uint8_t refusal;
+    size_t count; /* places that were written */
+    size_t place; /* the one served last, to be brought to the next call */
 };
 
 /* ---- the functions */
@@ -425,6 +441,38 @@ struct lavroudem_booked lavroudem_book(
     const int64_t *values, size_t values_length,
     uint8_t *out, size_t out_length);
 
+/*
+ * Whose turn it is among open walks, so that a long one keeps none of the others
+ * waiting. A table has 1 to LAVROUDEM_MAX_WALKS records, each with a walk and its
+ * steps left, at most LAVROUDEM_MAX_STEPS. Its places are counted from 0, and
+ * `place` is the one served last. To the first call bring the place before the
+ * one that is to come first, or the last of the table for place 0.
+ *
+ * A turn goes to the next place after the one served last, round the table, that
+ * has steps left: it is written to `list`, from the start on, and one of its
+ * steps left is taken off. The call ends where the list is full or no steps are
+ * left. Answers how many places it wrote, and the place served last, which is
+ * the last one written, or `place` if none was. The list beyond them keeps what
+ * it held, and so does all of the table but the steps left. Whether a walk is
+ * open, and where it stands, is not looked at.
+ *
+ * The caller then takes each walk of the list back by 1, one entry after the
+ * other, and puts the walk that comes back into its record. If only these calls
+ * write steps left and place, then whenever a walk has another turn, all other
+ * walks that still have steps left have had just one since its last turn, be it
+ * in this call or in an earlier one.
+ *
+ * Refuses with 29, and checks nothing else, where the table is empty or too
+ * long, `place` lies outside of it, the steps left of a record are too many, or
+ * the list has more than LAVROUDEM_MAX_PLACES bytes. A list of no bytes is
+ * accepted, and no place is written. It needs no sheet and no register. turns.c
+ * serves five walks.
+ */
+struct lavroudem_allotted lavroudem_turns(
+    struct lavroudem_turn *table, size_t table_length,
+    size_t place,
+    uint8_t *list, size_t list_length);
+
 /* The bytes that must be lent for the listing of a deck of so many bytes. */
 size_t lavroudem_deck_room(size_t deck_length);
 
@@ -484,6 +532,10 @@ LAVROUDEM_OFFSET(lavroudem_walk, open, 0);
 LAVROUDEM_OFFSET(lavroudem_walk, number, 1);
 LAVROUDEM_OFFSET(lavroudem_walk, position, 8);
 
+LAVROUDEM_SIZE(lavroudem_turn, 24);
+LAVROUDEM_OFFSET(lavroudem_turn, walk, 0);
+LAVROUDEM_OFFSET(lavroudem_turn, left, 16);
+
 LAVROUDEM_SIZE(lavroudem_opened, 24);
 LAVROUDEM_OFFSET(lavroudem_opened, refusal, 0);
 LAVROUDEM_OFFSET(lavroudem_opened, walk, 8);
@@ -512,6 +564,11 @@ LAVROUDEM_OFFSET(lavroudem_unpacked, coupon, 8);
 LAVROUDEM_SIZE(lavroudem_booked, 16);
 LAVROUDEM_OFFSET(lavroudem_booked, refusal, 0);
 LAVROUDEM_OFFSET(lavroudem_booked, length, 8);
+
+LAVROUDEM_SIZE(lavroudem_allotted, 24);
+LAVROUDEM_OFFSET(lavroudem_allotted, refusal, 0);
+LAVROUDEM_OFFSET(lavroudem_allotted, count, 8);
+LAVROUDEM_OFFSET(lavroudem_allotted, place, 16);
 
 #ifdef __cplusplus
 }

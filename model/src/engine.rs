@@ -4,6 +4,7 @@
 use crate::deck::Calls;
 use crate::refusal::Refusal;
 use crate::sheet::Sheet;
+use crate::turns::Turn;
 use crate::walk::{Value, Walk};
 use lavroudem::{lent, Lists, Pool};
 
@@ -117,6 +118,26 @@ pub fn forward(
     row: &mut [u64],
 ) -> Result<(), Refusal> {
     lent::forward(sheet, register, row, steps).map_err(refusal)
+}
+
+/// On a copy of the table, which is brought back whole.
+pub fn turns(table: &mut [Turn], place: &mut usize, list: &mut [u8]) -> Result<usize, Refusal> {
+    let mut lent = lend_table(table);
+    let answer = lavroudem::turns(&mut lent, place, list);
+    for (turn, after) in table.iter_mut().zip(lent) {
+        let (walk, left) = (handed(after.walk), after.left);
+        *turn = Turn { walk, left };
+    }
+    answer.map_err(refusal)
+}
+
+/// A turn table as the engine's callers bring it.
+pub fn lend_table(table: &[Turn]) -> Vec<lavroudem::Turn> {
+    let lend = |turn: &Turn| lavroudem::Turn {
+        walk: brought(turn.walk),
+        left: turn.left,
+    };
+    table.iter().map(lend).collect()
 }
 
 /// A sheet as the engine's callers bring it, with a copy of its lists.

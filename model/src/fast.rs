@@ -10,6 +10,7 @@ use crate::packed::IMAGE_LENGTH;
 use crate::refusal::{refuse_if, Refusal};
 use crate::register;
 use crate::sheet::{self, Sheet, MAX_NAMES, MAX_STEPS, MAX_TRANCHES};
+use crate::turns::{Turn, MAX_LEFT, MAX_PLACES, MAX_WALKS};
 use crate::walk::{row_length, Value, Walk};
 
 const B: u64 = 1_000_000_000;
@@ -206,6 +207,32 @@ fn put_digits(out: &mut [u8; LINE_ROOM], start: usize, number: u64, count: usize
         rest /= 10;
     }
     start + count
+}
+
+/// Writes the places of the walks whose turn it is, and gives how many.
+pub fn turns(table: &mut [Turn], place: &mut usize, list: &mut [u8]) -> Result<usize, Refusal> {
+    let fault = table.is_empty()
+        || table.len() > MAX_WALKS
+        || *place >= table.len()
+        || table.iter().any(|turn| turn.left > MAX_LEFT)
+        || list.len() > MAX_PLACES;
+    refuse_if(fault, Refusal::Turns)?;
+    let all: usize = table.iter().map(|turn| usize::from(turn.left)).sum();
+    let written = all.min(list.len());
+    let mut last = *place;
+    for entry in &mut list[..written] {
+        // No fewer steps are left than turns to write, so this ends.
+        let left = loop {
+            last = if last + 1 < table.len() { last + 1 } else { 0 };
+            if table[last].left > 0 {
+                break &mut table[last].left;
+            }
+        };
+        *left -= 1;
+        *entry = last as u8;
+    }
+    *place = last;
+    Ok(written)
 }
 
 /// The hazards of the moves into a step, for a sheet that passed its checks.

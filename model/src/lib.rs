@@ -10,6 +10,7 @@
 //! - [`tree`]: rolling rows back, net values, hedge ratios, default counts
 //! - [`packed`]: coupons as the ledger sends them, in packed decimal
 //! - [`book`]: one figure for the positions of a whole book
+//! - [`turns`]: whose turn it is among the walks of a terminal
 //! - [`register`]: which sheet numbers are live, and what a power loss leaves
 //! - [`walk`]: the calls with everything lent to them and all their refusals
 //! - [`commands`]: the commands of a deck, by byte and by word
@@ -44,5 +45,6 @@ pub mod register;
 pub mod sheet;
 pub mod tree;
 pub mod trials;
+pub mod turns;
 pub mod walk;
 pub mod worked;

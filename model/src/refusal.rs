@@ -32,13 +32,15 @@ pub enum Refusal {
     Periods = 25,
     /// Of a book alone, checked after 2.
     Book = 28,
+    /// Of a call for turns alone, its only check.
+    Turns = 29,
     /// Of a coupon in packed decimal alone, checked before 8.
     Digit = 30,
 }
 
 impl Refusal {
-    /// In the order of their numbers: 1 to 21, then 25, 28 and 30.
-    pub const ALL: [Refusal; 24] = [
+    /// In the order of their numbers: 1 to 21, then 25 and 28 to 30.
+    pub const ALL: [Refusal; 25] = [
         Refusal::Pool,
         Refusal::Length,
         Refusal::Recovery,
@@ -62,6 +64,7 @@ impl Refusal {
         Refusal::Elapsed,
         Refusal::Periods,
         Refusal::Book,
+        Refusal::Turns,
         Refusal::Digit,
     ];
 
@@ -102,6 +105,7 @@ impl Refusal {
             Refusal::Elapsed => "elapsed",
             Refusal::Periods => "periods",
             Refusal::Book => "book",
+            Refusal::Turns => "turns",
             Refusal::Digit => "digit",
         }
     }

@@ -11,6 +11,7 @@ use crate::packed;
 use crate::refusal::Refusal;
 use crate::register::{self, LIVE, UNISSUED, WITHDRAWN};
 use crate::sheet::Sheet;
+use crate::turns::{self, Turn};
 use crate::walk::{row_length, Value, Walk};
 use std::ops::RangeInclusive;
 
@@ -583,6 +584,7 @@ pub fn listing_by(calls: &Calls) -> String {
     text.push_str(&cut_lines());
     text.push_str(&packed_lines(packed::read, packed::write));
     text.push_str(&book_lines(book::book));
+    text.push_str(&turn_lines(turns::turns));
     text
 }
 
@@ -959,4 +961,97 @@ fn list_of(length: usize, first: i64, others: i64) -> Vec<i64> {
     let mut list = vec![others; length];
     list.iter_mut().take(1).for_each(|number| *number = first);
     list
+}
+
+/// A call for turns that is tried: the steps left, the place served last, and
+/// how many bytes are lent.
+type Turns<'a> = (&'a [u16], usize, usize);
+
+/// The order: after the place, round the table, past walks that have none left;
+/// and where it ends.
+const TURN_ORDERS: [Turns; 15] = [
+    (&[2, 2, 2], 0, 3),
+    (&[2, 2, 2], 1, 3),
+    (&[2, 2, 2], 2, 3),
+    (&[2, 2, 2], 2, 1),
+    (&[2, 2, 2], 1, 2),
+    (&[2, 2, 2], 0, 4),
+    (&[0, 3, 0], 1, 5),
+    (&[3, 1, 0], 2, 9),
+    (&[1, 0, 2, 1], 0, 9),
+    (&[1, 0, 2, 1], 1, 2),
+    (&[0, 0, 0, 5], 1, 2),
+    (&[5, 0, 0, 0], 1, 2),
+    (&[0, 0, 0], 1, 4),
+    (&[2, 2, 2], 1, 0),
+    // 29 places.
+    (&[20, 20], 0, 29),
+];
+
+/// Calls on one table, in turn: of the fourth 29 is answered, and the second
+/// and the last write nothing.
+const TURN_CALLS: (&[u16], usize, [usize; 7]) = (&[9, 2, 1, 3], 3, [3, 0, 3, 65_536, 3, 9, 9]);
+
+/// 29: each number at both sides of its limit, alone and beside others.
+const TURN_LIMITS: [Turns; 21] = [
+    (&[], 0, 3),
+    (&[1], 0, 3),
+    (&[1; 16], 15, 18),
+    (&[1; 17], 0, 3),
+    (&[1; 17], 16, 3),
+    (&[1, 1, 1], 3, 4),
+    (&[1, 1, 1], 4, 4),
+    (&[1, 1, 1], usize::MAX, 4),
+    (&[3_650, 1, 1], 2, 4),
+    (&[3_651, 1, 1], 2, 4),
+    (&[1, 3_650, 1], 2, 4),
+    (&[1, 3_651, 1], 2, 4),
+    (&[1, 1, 3_650], 2, 4),
+    (&[1, 1, 3_651], 2, 4),
+    (&[65_535; 3], 2, 4),
+    (&[1, 1, 1], 2, 65_535),
+    (&[1, 1, 1], 2, 65_536),
+    (&[3_650; 16], 15, 58_400),
+    (&[3_650; 16], 15, 65_535),
+    (&[3_651; 17], 17, 65_536),
+    (&[], 0, 0),
+];
+
+/// A call for turns: table, place served last, and list.
+type TurnCall = fn(&mut [Turn], &mut usize, &mut [u8]) -> Result<usize, Refusal>;
+
+/// 29: turns with the first 18 bytes of the list that they leave, the sum of all
+/// its bytes, and the steps left.
+pub fn turn_lines(turns: TurnCall) -> String {
+    let table = |steps: &[u16]| -> Vec<Turn> {
+        let walk = Walk::fresh();
+        steps.iter().map(|&left| Turn { walk, left }).collect()
+    };
+    let once =
+        |&(steps, mut place, lent): &Turns| turn_line(turns, &mut table(steps), &mut place, lent);
+    let (steps, mut place, lists) = TURN_CALLS;
+    let mut one_table = table(steps);
+    let calls = lists.map(|lent| turn_line(turns, &mut one_table, &mut place, lent));
+    let orders = TURN_ORDERS.iter().map(once);
+    orders
+        .chain(calls)
+        .chain(TURN_LIMITS.iter().map(once))
+        .collect()
+}
+
+fn turn_line(turns: TurnCall, table: &mut [Turn], place: &mut usize, lent: usize) -> String {
+    let listed = |numbers: &mut dyn Iterator<Item = u16>| -> String {
+        numbers.map(|number| format!(" {number}")).collect()
+    };
+    let steps = |table: &[Turn]| listed(&mut table.iter().map(|turn| turn.left));
+    let before = format!("turns steps{} place {place} lent {lent}", steps(table));
+    let mut list = vec![0xFF; lent];
+    let answer = match turns(table, place, &mut list) {
+        Ok(count) => format!("0 written {count} last {place}"),
+        Err(refusal) => refusal.number().to_string(),
+    };
+    let first = listed(&mut list.iter().take(18).map(|&byte| byte.into()));
+    let sum: u64 = list.iter().map(|&byte| u64::from(byte)).sum();
+    let left = steps(table);
+    format!("{before} answer {answer} list{first} sum {sum} left{left}\n")
 }

@@ -1,7 +1,7 @@
 //! What `callers/c/unequal.c`, `callers/c/periods.c` and
 //! `callers/c/elapsed.c` print is what the model says of their sheets, and
-//! what `callers/c/packed.c` and `callers/c/book.c` print is what it says of
-//! those coupons and positions.
+//! what `callers/c/packed.c`, `callers/c/book.c` and `callers/c/turns.c` print
+//! is what it says of those coupons, positions and walks.
 
 use lavroudem_model::book::{book, LINE_ROOM};
 use lavroudem_model::packed;
@@ -10,6 +10,8 @@ use lavroudem_model::sheet::{check, Sheet};
 use lavroudem_model::tree::{
     default_leg, distribution, hedge_ratio, net_value, premium_leg, roll_back, Rows,
 };
+use lavroudem_model::turns::{turns, Turn};
+use lavroudem_model::walk::Walk;
 use lavroudem_model::worked::two_periods;
 use std::fmt::Write;
 
@@ -18,6 +20,7 @@ const PERIODS: &str = include_str!("../../callers/periods.stdout");
 const ELAPSED: &str = include_str!("../../callers/elapsed.stdout");
 const PACKED: &str = include_str!("../../callers/packed.stdout");
 const BOOK: &str = include_str!("../../callers/book.stdout");
+const TURNS: &str = include_str!("../../callers/turns.stdout");
 
 /// No two of names, steps and tranches + 1 are the same.
 fn unequal_sheet() -> Sheet {
@@ -268,4 +271,84 @@ fn positions_of_a_book() {
         write!(lines, "{what}: {stays}{line}").unwrap();
     }
     assert_eq!(lines, BOOK);
+}
+
+/// A sheet of `callers/c/turns.c`; they differ in their steps.
+fn sheet_of(steps: usize, number: u8) -> Sheet {
+    let mut accruals = vec![0; steps];
+    accruals[steps - 1] = 1_000_000_000;
+    Sheet {
+        number,
+        names: 5,
+        steps,
+        tranches: 1,
+        recovery: 400_000_000,
+        attachments: vec![0, 300_000_000],
+        starts: vec![1],
+        hazards: vec![1_000_000; 5],
+        discounts: vec![999_900_000; steps],
+        accruals,
+        elapsed: vec![0; steps],
+        coupons: vec![500_000; 2],
+    }
+}
+
+/// The walks go back in turns, and their values are those of walks alone.
+#[test]
+fn walks_in_turns() {
+    let sheets: Vec<Sheet> = [3_650, 2, 40, 10, 120]
+        .into_iter()
+        .zip(100..)
+        .map(|(steps, number)| sheet_of(steps, number))
+        .collect();
+    let mut rows: Vec<Rows> = sheets.iter().map(Rows::zero).collect();
+    let opened = |sheet: &Sheet| Turn {
+        walk: Walk {
+            open: true,
+            number: sheet.number,
+            position: sheet.steps,
+        },
+        left: sheet.steps as u16,
+    };
+    let mut table: Vec<Turn> = sheets.iter().map(opened).collect();
+    let mut place = sheets.len() - 1;
+    let mut text = String::new();
+    let mut served = 0;
+    for call in 0.. {
+        let mut list = [0; 6];
+        let count = turns(&mut table, &mut place, &mut list).unwrap();
+        let list = &list[..count];
+        if list.is_empty() {
+            break;
+        }
+        if call < 3 {
+            let places: String = list.iter().map(|place| format!(" {place}")).collect();
+            writeln!(text, "turns:{places}").unwrap();
+        }
+        for named in list.iter().map(|&named| usize::from(named)) {
+            let position = &mut table[named].walk.position;
+            *position = roll_back(&sheets[named], &mut rows[named], *position, 1);
+            served += 1;
+            if *position == 0 {
+                writeln!(text, "walk {named} at its root after {served} turns").unwrap();
+            }
+        }
+    }
+    for (walk, (sheet, rows)) in sheets.iter().zip(&rows).enumerate() {
+        assert_eq!(check(sheet), Ok(()));
+        let mut alone = Rows::zero(sheet);
+        let steps = sheet.steps;
+        assert_eq!(roll_back(sheet, &mut alone, steps, steps), 0);
+        assert_eq!(*rows, alone);
+        let default = default_leg(sheet, rows, 0, 0);
+        let premium = premium_leg(sheet, rows, 0, 0);
+        let net = net_value(sheet, rows, 0, 0);
+        writeln!(
+            text,
+            "walk {walk}, steps {steps}: default leg {default}, premium leg {premium}, \
+             net value {net}, as alone"
+        )
+        .unwrap();
+    }
+    assert_eq!(TURNS, text);
 }

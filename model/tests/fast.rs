@@ -3,13 +3,14 @@
 mod common;
 
 use common::books::{self, Met};
-use common::{breaks, plain_sheet, Random};
+use common::{breaks, plain_sheet, turns, Random};
 use lavroudem_model::book::book;
 use lavroudem_model::fast;
 use lavroudem_model::packed;
 use lavroudem_model::register;
 use lavroudem_model::sheet::Sheet;
 use lavroudem_model::tree::premium_ceiling;
+use lavroudem_model::turns::turns as serve;
 use lavroudem_model::walk::{self, row_length, Walk};
 use std::collections::BTreeSet;
 
@@ -162,4 +163,19 @@ fn random_books() {
         met.add(&lent, answer, &out);
     }
     met.assert_all(500);
+}
+
+#[test]
+fn random_turns() {
+    let mut random = Random::new(0x7A12_0006);
+    let mut met = turns::Met::default();
+    for _ in 0..60_000 {
+        let lent = turns::call(&mut random);
+        let (after, answer) = lent.after(serve);
+        let (fast_after, fast_answer) = lent.after(fast::turns);
+        assert_eq!(fast_answer, answer, "{lent:?}");
+        assert_eq!(fast_after, after, "{lent:?}");
+        met.add(&lent, answer, &after);
+    }
+    met.assert_all(300);
 }

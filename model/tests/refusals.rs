@@ -38,6 +38,7 @@ fn numbers_and_words() {
         (Refusal::Elapsed, 21, "elapsed"),
         (Refusal::Periods, 25, "periods"),
         (Refusal::Book, 28, "book"),
+        (Refusal::Turns, 29, "turns"),
         (Refusal::Digit, 30, "digit"),
     ];
     assert_eq!(table.map(|(refusal, _, _)| refusal), Refusal::ALL);

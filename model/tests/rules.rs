@@ -21,6 +21,7 @@ use page::formulas::*;
 use page::limits::*;
 use page::orders::*;
 use page::packed::*;
+use page::turns::*;
 use page::worked::*;
 use page::{cells, ensure, named, same, says, size, spans, table, whole, Found};
 use std::fs;
@@ -76,6 +77,10 @@ checks! {
     books_are_described;
     limits_of_a_book_are_the_models;
     worked_book_is_right;
+    turns_are_the_models;
+    turns_are_described;
+    limits_of_turns_are_the_models;
+    worked_turns_are_right;
 }
 
 fn root() -> PathBuf {

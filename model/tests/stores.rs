@@ -3,7 +3,8 @@
 //! nothing in between is seen in the code. One function stores, one byte, once;
 //! issue and withdraw call it only where they accept; every other function that
 //! may write a register hands it on. The image of a packed coupon is held to the
-//! same, and so is the line of a book.
+//! same, and so are the line of a book, and the table and the list of a call for
+//! turns.
 //!
 //! Nor does a contract say in which form a figure is worked out: that a
 //! tranche's loss has three cases, and stands in one function. Or how often:
@@ -87,8 +88,8 @@ const HANDS_ON: [(&str, &[&str]); 10] = [
 /// The one function of the engine with a register of its own.
 const OWNS: (&str, &str) = ("deck/src/lib.rt: run", "run_on(&mut register)");
 
-/// The trials are a caller, and make up registers of their own.
-const TRIALS: [&str; 3] = ["trial/", "trial_calls/", "trials/"];
+/// The trials are a caller, and make up registers and steps left of their own.
+const TRIALS: [&str; 4] = ["trial/", "trial_calls/", "trial_turns/", "trials/"];
 
 // ---- the source, as words
 
@@ -485,18 +486,184 @@ fn a_refused_book_stores_nothing() {
     }
 }
 
+/// The functions that may write a turn table, its steps left or a list of
+/// places, and how. `fill` stores, where the call is taken; the steps left are
+/// a copy, and as many of it go back as `stored` says, which is none after a
+/// refusal.
+const TURN_WRITERS: [(&str, &str); 7] = [
+    (
+        "places/src/lib.rt: fill",
+        "let n = left.len();
+         let mut last = place;
+         let mut i = 0;
+         while i < list.len() {
+             let p = choose(&*left, last);
+             if n <= p {
+                 return Turned::Served(i, last);
+             }
+             left[p] = left[p] - 1;
+             list[i] = p as u8;
+             last = p;
+             i += 1;
+         }
+         Turned::Served(i, last)",
+    ),
+    (
+        "places/src/lib.rt: serve",
+        "if is_taken(&*left, place, list.len()) {
+             return fill(left, place, list);
+         }
+         Turned::Turns",
+    ),
+    (
+        "places/src/lib.rt: serve_first",
+        "if WALKS < n {
+             return Turned::Turns;
+         }
+         serve(&mut left[..n], place, list)",
+    ),
+    (
+        "turns/src/lib.rt: copy_out",
+        "let mut i = 0;
+         while i < count {
+             left[i] = table[i].left;
+             i += 1;
+         }",
+    ),
+    (
+        "turns/src/lib.rt: copy_in",
+        "let mut at = 0;
+         while at < count {
+             table[at].left = left[at];
+             at += 1;
+         }",
+    ),
+    (
+        "turns/src/lib.rt: serve_with",
+        "let n = table.len();
+         let shown = places::shown(n);
+         copy_out(&mut *table, &mut *left, shown);
+         let answer = places::serve_first(&mut *left, n, place, list);
+         let stored = places::stored(answer, shown);
+         copy_in(table, left, stored);
+         answer",
+    ),
+    (
+        "turns/src/lib.rt: serve",
+        "let mut left = [0; 16];
+         serve_with(table, &mut left, place, list)",
+    ),
+];
+
+/// How many steps left are copied in again.
+const TURNS_STORED: (&str, &str) = (
+    "places/src/lib.rt: stored",
+    "match answer {
+         Turned::Served(_, _) => n,
+         Turned::Turns => 0,
+     }",
+);
+
+/// Those that judge and choose. They may only read.
+const TURN_READERS: [&str; 3] = [
+    "places/src/lib.rt: choose",
+    "places/src/lib.rt: any_over",
+    "places/src/lib.rt: is_taken",
+];
+
+/// The exported call. It hands table and list to the engine's.
+const TURN_EXPORT: &str = "export/src/lib.rt: lavroudem_turns";
+
+impl Function {
+    /// The parameters of a call for turns that this one may write.
+    fn turns_written(&self) -> Vec<&str> {
+        let kinds = [
+            "& mut [ u16 ]",
+            "& mut [ Turn ]",
+            "& mut [ turns : : Turn ]",
+        ];
+        let of_turns = |(name, kind): &&(String, String)| {
+            kinds.contains(&kind.as_str()) || name == "list" && kind == "& mut [ u8 ]"
+        };
+        let written = self.parameters.iter().filter(of_turns);
+        written.map(|(name, _)| name.as_str()).collect()
+    }
+}
+
+#[test]
+fn a_refused_call_for_turns_stores_nothing() {
+    let functions = functions();
+    let (mut writers, mut exported): (Vec<&str>, _) = (Vec::new(), 0);
+    for function in &functions {
+        let written = function.turns_written();
+        if written.is_empty() {
+            continue;
+        }
+        if function.place == TURN_EXPORT {
+            assert_eq!(written, ["table", "list"]);
+            let handed = words("turns::serve(table, place, list)");
+            let calls = function.body.windows(handed.len());
+            assert_eq!(calls.filter(|call| *call == handed).count(), 1);
+            let named = |name: &str| function.body.iter().filter(|&it| it == name).count();
+            assert_eq!((named("table"), named("list")), (1, 1));
+            exported += 1;
+            continue;
+        }
+        writers.push(&function.place);
+    }
+    assert_eq!(exported, 1);
+    assert_eq!(writers, TURN_WRITERS.map(|(place, _)| place));
+    for (place, body) in TURN_WRITERS.iter().chain([&TURNS_STORED]) {
+        assert_eq!(function(&functions, place).body, words(body), "{place}");
+    }
+    for place in TURN_READERS {
+        let reads = |(_, kind): &(String, String)| !kind.contains("mut");
+        let kinds = &function(&functions, place).parameters;
+        assert!(kinds.iter().all(reads), "{place}");
+    }
+    let fills = two("fill", "(");
+    let calls = |it: &&Function| it.body.windows(2).any(|words| words == fills);
+    // It is not for other crates.
+    let source = fs::read_to_string(crates().join("places/src/lib.rt")).unwrap();
+    assert!(source.contains("\nfn fill("));
+    let callers: Vec<&str> = functions
+        .iter()
+        .filter(|it| it.place.starts_with("places/"))
+        .filter(calls)
+        .map(|it| it.place.as_str())
+        .collect();
+    assert_eq!(callers, ["places/src/lib.rt: serve"]);
+}
+
+/// A writable slice of anything but bytes and numbers of 64 bits is the steps
+/// left of a turn table or the table, and called so.
+#[test]
+fn other_writable_slices_are_called_left_or_table() {
+    let mut found = BTreeSet::new();
+    for function in functions() {
+        for (name, kind) in &function.parameters {
+            if kind.contains("mut") && !kind.contains("u8") && !kind.contains("u64") {
+                let of_turns = function.turns_written().contains(&name.as_str());
+                assert!(of_turns, "{}: {name}: {kind}", function.place);
+                found.insert(name.clone());
+            }
+        }
+    }
+    assert_eq!(found, BTreeSet::from(["left".into(), "table".into()]));
+}
+
 /// What a program's input is read into.
 const READS: (&str, &str) = ("listing/src/main.rt: read_all", "input");
 
 /// A writable slice of bytes is a register, the room of a listing or a book's
-/// line, or the image of a packed coupon, and called so, but for what is read
-/// into.
+/// line, the image of a packed coupon or a list of places, and called so, but
+/// for what is read into.
 #[test]
-fn writable_bytes_are_called_register_out_or_image() {
+fn writable_bytes_are_called_register_out_image_or_list() {
     for function in functions() {
         for (name, kind) in &function.parameters {
             let bytes = kind.contains("mut") && kind.contains("u8");
-            let called = ["register", "out", "image"].contains(&name.as_str())
+            let called = ["register", "out", "image", "list"].contains(&name.as_str())
                 || (function.place.as_str(), name.as_str()) == READS;
             let plain = called && kind == "& mut [ u8 ]";
             assert!(!bytes || plain, "{}: {name}: {kind}", function.place);

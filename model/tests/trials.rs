@@ -403,5 +403,58 @@ left 1212015
 book lent 97 positions 1 1 answer 2
 left 1212015
 ";
+    let listing = listing();
+    let (before_turns, _) = listing.split_once("turns steps ").unwrap();
+    assert!(before_turns.ends_with(expected));
+}
+
+/// Turns with what they leave of list and steps.
+#[test]
+fn turn_lines_are_what_they_should_be() {
+    let expected = "
+turns steps 2 2 2 place 0 lent 3 answer 0 written 3 last 0 list 1 2 0 sum 3 left 1 1 1
+turns steps 2 2 2 place 1 lent 3 answer 0 written 3 last 1 list 2 0 1 sum 3 left 1 1 1
+turns steps 2 2 2 place 2 lent 3 answer 0 written 3 last 2 list 0 1 2 sum 3 left 1 1 1
+turns steps 2 2 2 place 2 lent 1 answer 0 written 1 last 0 list 0 sum 0 left 1 2 2
+turns steps 2 2 2 place 1 lent 2 answer 0 written 2 last 0 list 2 0 sum 2 left 1 2 1
+turns steps 2 2 2 place 0 lent 4 answer 0 written 4 last 1 list 1 2 0 1 sum 4 left 1 0 1
+turns steps 0 3 0 place 1 lent 5 answer 0 written 3 last 1 list 1 1 1 255 255 sum 513 left 0 0 0
+turns steps 3 1 0 place 2 lent 9 answer 0 written 4 last 0 list 0 1 0 0 255 255 255 255 255 sum 1276 left 0 0 0
+turns steps 1 0 2 1 place 0 lent 9 answer 0 written 4 last 2 list 2 3 0 2 255 255 255 255 255 sum 1282 left 0 0 0 0
+turns steps 1 0 2 1 place 1 lent 2 answer 0 written 2 last 3 list 2 3 sum 5 left 1 0 1 0
+turns steps 0 0 0 5 place 1 lent 2 answer 0 written 2 last 3 list 3 3 sum 6 left 0 0 0 3
+turns steps 5 0 0 0 place 1 lent 2 answer 0 written 2 last 0 list 0 0 sum 0 left 3 0 0 0
+turns steps 0 0 0 place 1 lent 4 answer 0 written 0 last 1 list 255 255 255 255 sum 1020 left 0 0 0
+turns steps 2 2 2 place 1 lent 0 answer 0 written 0 last 1 list sum 0 left 2 2 2
+turns steps 20 20 place 0 lent 29 answer 0 written 29 last 1 list 1 0 1 0 1 0 1 0 1 0 1 0 1 0 1 0 1 0 sum 15 left 6 5
+turns steps 9 2 1 3 place 3 lent 3 answer 0 written 3 last 2 list 0 1 2 sum 3 left 8 1 0 3
+turns steps 8 1 0 3 place 2 lent 0 answer 0 written 0 last 2 list sum 0 left 8 1 0 3
+turns steps 8 1 0 3 place 2 lent 3 answer 0 written 3 last 1 list 3 0 1 sum 4 left 7 0 0 2
+turns steps 7 0 0 2 place 1 lent 65536 answer 29 list 255 255 255 255 255 255 255 255 255 255 255 255 255 255 255 255 255 255 sum 16711680 left 7 0 0 2
+turns steps 7 0 0 2 place 1 lent 3 answer 0 written 3 last 3 list 3 0 3 sum 6 left 6 0 0 0
+turns steps 6 0 0 0 place 3 lent 9 answer 0 written 6 last 0 list 0 0 0 0 0 0 255 255 255 sum 765 left 0 0 0 0
+turns steps 0 0 0 0 place 0 lent 9 answer 0 written 0 last 0 list 255 255 255 255 255 255 255 255 255 sum 2295 left 0 0 0 0
+turns steps place 0 lent 3 answer 29 list 255 255 255 sum 765 left
+turns steps 1 place 0 lent 3 answer 0 written 1 last 0 list 0 255 255 sum 510 left 0
+turns steps 1 1 1 1 1 1 1 1 1 1 1 1 1 1 1 1 place 15 lent 18 answer 0 written 16 last 15 list 0 1 2 3 4 5 6 7 8 9 10 11 12 13 14 15 255 255 sum 630 left 0 0 0 0 0 0 0 0 0 0 0 0 0 0 0 0
+turns steps 1 1 1 1 1 1 1 1 1 1 1 1 1 1 1 1 1 place 0 lent 3 answer 29 list 255 255 255 sum 765 left 1 1 1 1 1 1 1 1 1 1 1 1 1 1 1 1 1
+turns steps 1 1 1 1 1 1 1 1 1 1 1 1 1 1 1 1 1 place 16 lent 3 answer 29 list 255 255 255 sum 765 left 1 1 1 1 1 1 1 1 1 1 1 1 1 1 1 1 1
+turns steps 1 1 1 place 3 lent 4 answer 29 list 255 255 255 255 sum 1020 left 1 1 1
+turns steps 1 1 1 place 4 lent 4 answer 29 list 255 255 255 255 sum 1020 left 1 1 1
+turns steps 1 1 1 place 18446744073709551615 lent 4 answer 29 list 255 255 255 255 sum 1020 left 1 1 1
+turns steps 3650 1 1 place 2 lent 4 answer 0 written 4 last 0 list 0 1 2 0 sum 3 left 3648 0 0
+turns steps 3651 1 1 place 2 lent 4 answer 29 list 255 255 255 255 sum 1020 left 3651 1 1
+turns steps 1 3650 1 place 2 lent 4 answer 0 written 4 last 1 list 0 1 2 1 sum 4 left 0 3648 0
+turns steps 1 3651 1 place 2 lent 4 answer 29 list 255 255 255 255 sum 1020 left 1 3651 1
+turns steps 1 1 3650 place 2 lent 4 answer 0 written 4 last 2 list 0 1 2 2 sum 5 left 0 0 3648
+turns steps 1 1 3651 place 2 lent 4 answer 29 list 255 255 255 255 sum 1020 left 1 1 3651
+turns steps 65535 65535 65535 place 2 lent 4 answer 29 list 255 255 255 255 sum 1020 left 65535 65535 65535
+turns steps 1 1 1 place 2 lent 65535 answer 0 written 3 last 2 list 0 1 2 255 255 255 255 255 255 255 255 255 255 255 255 255 255 255 sum 16710663 left 0 0 0
+turns steps 1 1 1 place 2 lent 65536 answer 29 list 255 255 255 255 255 255 255 255 255 255 255 255 255 255 255 255 255 255 sum 16711680 left 1 1 1
+turns steps 3650 3650 3650 3650 3650 3650 3650 3650 3650 3650 3650 3650 3650 3650 3650 3650 place 15 lent 58400 answer 0 written 58400 last 15 list 0 1 2 3 4 5 6 7 8 9 10 11 12 13 14 15 0 1 sum 438000 left 0 0 0 0 0 0 0 0 0 0 0 0 0 0 0 0
+turns steps 3650 3650 3650 3650 3650 3650 3650 3650 3650 3650 3650 3650 3650 3650 3650 3650 place 15 lent 65535 answer 0 written 58400 last 15 list 0 1 2 3 4 5 6 7 8 9 10 11 12 13 14 15 0 1 sum 2257425 left 0 0 0 0 0 0 0 0 0 0 0 0 0 0 0 0
+turns steps 3651 3651 3651 3651 3651 3651 3651 3651 3651 3651 3651 3651 3651 3651 3651 3651 3651 place 17 lent 65536 answer 29 list 255 255 255 255 255 255 255 255 255 255 255 255 255 255 255 255 255 255 sum 16711680 left 3651 3651 3651 3651 3651 3651 3651 3651 3651 3651 3651 3651 3651 3651 3651 3651 3651
+turns steps place 0 lent 0 answer 29 list sum 0 left
+";
     assert!(listing().ends_with(expected));
 }

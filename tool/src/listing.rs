@@ -135,12 +135,17 @@ fn number(field: &str) -> Option<i128> {
 }
 
 /// Those of a deck's calls; 18 to 20 stop the deck, its one period is never at
-/// fault, its coupons are not packed, and it has no book.
+/// fault, its coupons are not packed, and it has no book and no turn table.
 fn refusal(number: i128) -> Result<Refusal, String> {
     let known = Refusal::ALL
         .into_iter()
         .filter(|refusal| !refusal.stops_a_deck())
-        .filter(|refusal| !matches!(refusal, Refusal::Periods | Refusal::Book | Refusal::Digit))
+        .filter(|refusal| {
+            !matches!(
+                refusal,
+                Refusal::Periods | Refusal::Book | Refusal::Turns | Refusal::Digit
+            )
+        })
         .find(|refusal| i128::from(refusal.number()) == number);
     known.ok_or_else(|| format!("no call of a deck is refused {number}"))
 }

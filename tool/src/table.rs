@@ -277,6 +277,7 @@ fn explanation(refusal: Refusal) -> &'static str {
         Refusal::Elapsed => "an elapsed fraction is above the accrual of the next premium date",
         Refusal::Periods => "not met by a deck, whose one period starts at step 1",
         Refusal::Book => "not met by a deck, which has no book",
+        Refusal::Turns => "not met by a deck, which has no turn table",
         Refusal::Digit => "not met by a deck, whose coupons are not packed",
     }
 }

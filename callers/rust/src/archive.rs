@@ -7,7 +7,7 @@
 
 use crate::refusal::Refusal;
 use crate::sheet::{Pool, Sheet};
-use crate::walk::{Value, Walk};
+use crate::walk::{Turn, Value, Walk};
 use crate::VERSION;
 use std::sync::Once;
 
@@ -35,7 +35,7 @@ pub(crate) struct Layout {
 }
 
 // In each answer `refusal` is 0 or the number of a refusal, and after a
-// refusal the figures are 0.
+// refusal the figures are 0; walk and place are as they were given.
 
 #[repr(C)]
 struct Opened {
@@ -76,6 +76,13 @@ struct Unpacked {
 struct Booked {
     refusal: u8,
     length: usize,
+}
+
+#[repr(C)]
+struct Allotted {
+    refusal: u8,
+    count: usize,
+    place: usize,
 }
 
 extern "C" {
@@ -155,6 +162,13 @@ extern "C" {
         out: *mut u8,
         out_length: usize,
     ) -> Booked;
+    fn lavroudem_turns(
+        table: *mut Turn,
+        table_length: usize,
+        place: usize,
+        list: *mut u8,
+        list_length: usize,
+    ) -> Allotted;
     fn lavroudem_deck_room(deck_length: usize) -> usize;
     fn lavroudem_run_deck(
         deck: *const u8,
@@ -463,6 +477,62 @@ pub fn book(nominals: &[i64], values: &[i64], out: &mut [u8]) -> Result<usize, R
         )
     };
     answer(booked.refusal, booked.length)
+}
+
+/// Whose turn it is among the open walks of a terminal, so that a long one keeps
+/// none of the others waiting. A turn goes to the next place of the table after
+/// the one served last, round the table, that has steps left: it is written to
+/// `list`, from the start on, and one of its steps left is taken off. The call
+/// ends where the list is full or no steps are left, and gives how many places
+/// it wrote.
+///
+/// Places are counted from 0. `place` is the one served last, before the call
+/// and after it; it stays where none is written. So do the list beyond the
+/// places and all of the table but the steps left. Whether a walk is open, and
+/// where it stands, is not looked at.
+///
+/// The caller then takes each walk of the list back by 1, and puts the walk that
+/// comes back into its record. If only these calls write steps left and place,
+/// then whenever a walk has another turn, all other walks that still have steps
+/// left have had just one since its last turn.
+///
+/// Refusal 29, as [`Refusal::Turns`] says; then table, place and list stay. A
+/// list of no bytes is accepted.
+///
+/// ```
+/// use lavroudem::{turns, Refusal, Turn};
+///
+/// let mut table = [Turn::default(); 3];
+/// table[0].left = 1_000;
+/// table[2].left = 2;
+/// let mut place = 2;
+/// let mut list = [9; 6];
+/// assert_eq!(turns(&mut table, &mut place, &mut list[..5]), Ok(5));
+/// assert_eq!(list, [0, 2, 0, 2, 0, 9]);
+/// assert_eq!(table.map(|turn| turn.left), [997, 0, 0]);
+/// assert_eq!(place, 0);
+///
+/// place = 3;
+/// assert_eq!(turns(&mut table, &mut place, &mut list), Err(Refusal::Turns));
+/// assert_eq!(place, 3);
+/// ```
+#[inline]
+pub fn turns(table: &mut [Turn], place: &mut usize, list: &mut [u8]) -> Result<usize, Refusal> {
+    same_version();
+    // SAFETY: each pointer and length are those of one slice; both are lent to
+    // be written and so overlap nothing.
+    let allotted = unsafe {
+        lavroudem_turns(
+            table.as_mut_ptr(),
+            table.len(),
+            *place,
+            list.as_mut_ptr(),
+            list.len(),
+        )
+    };
+    // After a refusal too, when it is the one that was given.
+    *place = allotted.place;
+    answer(allotted.refusal, allotted.count)
 }
 
 /// The bytes that must be lent for the listing of a deck of so many bytes.

@@ -43,9 +43,9 @@
 //! keeps the sheet, the walk and its rows together. A [`KeptRegister`] keeps
 //! the register in a file, over a power loss too. [`read_packed`] and
 //! [`write_packed`] take coupons from a ledger and to it. [`book_totals`] adds
-//! up the positions of a book, and [`book`] does so as a line of text. The
-//! module [`lent`] has the calls as the engine has them, for programs that keep
-//! their own rows.
+//! up the positions of a book, and [`book`] does so as a line of text. [`turns`]
+//! names the walks of a terminal that go back next. The module [`lent`] has the
+//! calls as the engine has them, for programs that keep their own rows.
 //!
 //! Units: money is in billionths of the pool; recovery, hazards and discounts
 //! in billionths; accruals and elapsed fractions in billionths of a year;
@@ -61,13 +61,13 @@ mod sheet;
 mod totals;
 mod walk;
 
-pub use archive::{book, issue, read_packed, withdraw, write_packed};
+pub use archive::{book, issue, read_packed, turns, withdraw, write_packed};
 pub use kept::{KeptError, KeptRegister, RegisterFile, RegisterStore};
 pub use open_walk::OpenWalk;
 pub use refusal::Refusal;
 pub use sheet::{Lists, Pool, Sheet};
 pub use totals::{book_totals, BookTotals};
-pub use walk::{Value, Walk};
+pub use walk::{Turn, Value, Walk};
 
 /// The calls over lent lists, as the engine has them.
 ///
@@ -83,7 +83,7 @@ pub mod lent {
 
 /// The version of the archive that this crate is written for, and of its C
 /// header. The first call panics on an archive of another one.
-pub const VERSION: u64 = 6;
+pub const VERSION: u64 = 7;
 
 /// The whole pool in units; also the 1 of recovery, hazards and discounts.
 pub const ONE: u64 = 1_000_000_000;
@@ -112,6 +112,11 @@ pub const MAX_NOMINAL: i64 = 1_000_000;
 pub const MAX_NET_VALUE: i64 = 200_000_000_000_000_000;
 /// The bytes that are lent for the line of a book.
 pub const BOOK_LENGTH: usize = 96;
+
+/// The most walks of a turn table, which has at least one.
+pub const MAX_WALKS: usize = 16;
+/// The most places of a list of turns.
+pub const MAX_PLACES: usize = 65_535;
 
 /// A register has one byte for each sheet number.
 pub const REGISTER_LENGTH: usize = 256;

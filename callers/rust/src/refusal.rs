@@ -80,6 +80,11 @@ refusals! {
     /// [`MAX_POSITIONS`](crate::MAX_POSITIONS) entries, or a nominal or net
     /// value is out of its range.
     Book, 28, "book";
+    /// A turn table is empty or has more than [`MAX_WALKS`](crate::MAX_WALKS)
+    /// walks, the place lies outside of it, steps left are more than
+    /// [`MAX_STEPS`](crate::MAX_STEPS), or the list has more than
+    /// [`MAX_PLACES`](crate::MAX_PLACES) bytes.
+    Turns, 29, "turns";
     /// Above 1.
     Recovery, 3, "recovery";
     /// Attachment points are not strictly rising, or above 1.

@@ -21,6 +21,15 @@ impl Walk {
     };
 }
 
+/// A walk of a turn table, and its steps left.
+#[repr(C)]
+#[derive(Clone, Copy, Debug, Default, PartialEq, Eq, Hash)]
+pub struct Turn {
+    pub walk: Walk,
+    /// At most [`MAX_STEPS`](crate::MAX_STEPS).
+    pub left: u16,
+}
+
 /// What a tranche or the index is worth at a default count.
 #[derive(Clone, Copy, Debug, PartialEq, Eq, Hash)]
 pub struct Value {

@@ -25,6 +25,8 @@ fn limits_and_bytes_are_the_same() {
         ("MAX_NOMINAL", MAX_NOMINAL as u64),
         ("MAX_NET_VALUE", MAX_NET_VALUE as u64),
         ("BOOK_LENGTH", BOOK_LENGTH as u64),
+        ("MAX_WALKS", MAX_WALKS as u64),
+        ("MAX_PLACES", MAX_PLACES as u64),
         ("REGISTER_LENGTH", REGISTER_LENGTH as u64),
     ];
     for (name, number) in numbers {
@@ -49,7 +51,7 @@ fn defined(name: &str) -> &str {
 /// The refusals in the order of their checks, with gaps in the numbers.
 fn checked() -> impl Iterator<Item = u8> {
     (1..=2)
-        .chain([28])
+        .chain([28, 29])
         .chain(3..=4)
         .chain([25])
         .chain(5..=7)
@@ -71,7 +73,7 @@ fn refusals_are_the_same() {
         assert!(found, "{entry}");
     }
     assert_eq!(Refusal::from_number(0), None);
-    for number in (22..=24).chain([26, 27, 29]).chain(31..=u8::MAX) {
+    for number in (22..=24).chain([26, 27]).chain(31..=u8::MAX) {
         assert_eq!(Refusal::from_number(number), Some(Refusal::Other(number)));
     }
 }
@@ -159,7 +161,7 @@ fn every_exported_function_is_declared() {
         let declaration = declaration(function);
         assert!(header.contains(&declaration), "{declaration}");
     }
-    assert_eq!(functions.len(), 15);
+    assert_eq!(functions.len(), 16);
 }
 
 /// The structs of the exported functions, each in the crate that owns it.
@@ -172,12 +174,14 @@ fn every_exported_struct_is_declared() {
         ("sheet", "Span"),
         ("sheet", "Sheet"),
         ("walk", "Walk"),
+        ("turns", "Turn"),
         ("returns", "Opened"),
         ("returns", "Moved"),
         ("returns", "Valued"),
         ("returns", "Hedged"),
         ("returns", "Unpacked"),
         ("returns", "Booked"),
+        ("returns", "Allotted"),
     ];
     for (owner, name) in structs {
         let start = format!("#[repr(C)]\npub struct {name} {{");
@@ -243,7 +247,10 @@ fn struct_declaration(name: &str, fields: &str) -> String {
 /// The header says what the numbers of an answer are.
 fn field_called<'a>(answer: &str, field: &'a str) -> &'a str {
     match (answer, field) {
-        ("Opened" | "Moved" | "Valued" | "Hedged" | "Unpacked" | "Booked", "number") => "refusal",
+        (
+            "Opened" | "Moved" | "Valued" | "Hedged" | "Unpacked" | "Booked" | "Allotted",
+            "number",
+        ) => "refusal",
         ("Valued", "default") => "default_leg",
         ("Valued", "premium") => "premium_leg",
         ("Valued", "net") => "net_value",
@@ -298,6 +305,7 @@ fn plain(kind: &str) -> String {
     match kind {
         "bool" => "bool".into(),
         "u8" => "uint8_t".into(),
+        "u16" => "uint16_t".into(),
         "u64" => "uint64_t".into(),
         "i64" => "int64_t".into(),
         "usize" => "size_t".into(),

@@ -12,9 +12,11 @@ ghost use Rattle.rows.specs.Rows.{rowsOf};
 ghost use Rattle.walk.specs.Calls.{openCall, backCall, valueCall, ratioCall, forwardCall};
 ghost use Rattle.packed.specs.Promise.{ours};
 ghost use Rattle.book.specs.Promise.{ours as ourBook};
+ghost use Rattle.fairness.specs.Promise.{ours as ourTurns};
 ghost use Rattle.export.specs.Bytes.{bytesIn};
 ghost use Rattle.returns.specs.Returns.{opened, moved, valued, hedged, returned};
 use deck::Ran;
+use returns::Allotted;
 use returns::Booked;
 use returns::Hedged;
 use returns::Moved;
@@ -22,22 +24,23 @@ use returns::Opened;
 use returns::Unpacked;
 use returns::Valued;
 use sheet::Sheet;
+use turns::Turn;
 use walk::Walk;
 
 // The version of these calls, raised when one of them, a struct or a number changes; 1 had no function that tells it.
-const VERSION: u64 = 6;
+const VERSION: u64 = 7;
 
 #[no_mangle]
 pub extern "C" fn lavroudem_version() -> u64
-    ensures { λ r. ⌜ r ≡ 6 ⌝ }
+    ensures { λ r. ⌜ r ≡ 7 ⌝ }
 {
     VERSION
 }
 
 // The same by name, which a program that is built for another version does not find.
 #[no_mangle]
-pub extern "C" fn lavroudem_version_6() -> u64
-    ensures { λ r. ⌜ r ≡ 6 ⌝ }
+pub extern "C" fn lavroudem_version_7() -> u64
+    ensures { λ r. ⌜ r ≡ 7 ⌝ }
 {
     VERSION
 }
@@ -213,6 +216,19 @@ pub extern "C" fn lavroudem_book(nominals: &[i64], values: &[i64], out: &mut [u8
         number: book::report_number(report),
         length: book::bytes_in(report),
     }
+}
+
+// Fills a list with the places of the walks whose turn it is, and takes a step off for each; its answer always has the place for the next call.
+#[no_mangle]
+pub extern "C" fn lavroudem_turns(table: &mut [Turn], place: usize, list: &mut [u8]) -> Allotted
+    ensures { λ r. ⌜ (r .number ≡ ourTurns (now (table .entry)) place (now (list .entry)) .number)
+        × ((r .count ≡ getD (ourTurns (now (table .entry)) place (now (list .entry)) .values) 0 0)
+        × ((r .place ≡ ourTurns (now (table .entry)) place (now (list .entry)) .place)
+        × ((now (table .exit) ≡ ourTurns (now (table .entry)) place (now (list .entry)) .table)
+        × (now (list .exit) ≡ ourTurns (now (table .entry)) place (now (list .entry)) .list)))) ⌝ }
+{
+    let answer = turns::serve(table, place, list);
+    returns::allotted_by(answer, place)
 }
 
 // The room that the listing of a deck of so many bytes may take.

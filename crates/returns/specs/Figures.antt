@@ -1,8 +1,12 @@
 -- The values of an answer, each 0 where the answer has none of its kind.
 use Prim.Native.Nat.{ℕ}
+use lib.ListN.{getD}
 use lib.IntN.{ℤ, pos}
 use Rattle.figures.specs.declared.Answer.{Answer}
 use Rattle.figures.specs.declared.Answer.the-variants.{Refused, Done, Position, Worth, Ratio}
+use Rattle.places.specs.declared.Turned.{Turned}
+use Rattle.places.specs.Places.{turnedNumber, turnedValues, placeAfter}
+use Rattle.returns.specs.declared.Allotted.{Allotted}
 
 abbrev pub positionIn : Answer → ℕ
 positionIn (Refused f) = 0
@@ -38,3 +42,8 @@ ratioIn Done = pos 0
 ratioIn (Position i) = pos 0
 ratioIn (Worth d a w) = pos 0
 ratioIn (Ratio z) = z
+
+-- Those of an answer to a call for turns at a place.
+abbrev pub allottedBy : Turned → ℕ → Allotted
+allottedBy answer place =
+    record { number = turnedNumber answer; count = getD (turnedValues answer) 0 0; place = placeAfter place answer }

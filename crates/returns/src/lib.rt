@@ -1,7 +1,8 @@
 // What the exported calls return: document 01's numbers and values, an enum taken apart.
 ghost use mathlib.Core.Path.{_≡_};
 ghost use Rattle.walk.specs.Answers.{saidOf};
-ghost use Rattle.returns.specs.Figures.{positionIn, defaultIn, premiumIn, netIn, ratioIn};
+ghost use Rattle.returns.specs.Figures.{positionIn, defaultIn, premiumIn, netIn, ratioIn, allottedBy};
+use places::Turned;
 use walk::Answer;
 use walk::Walk;
 
@@ -50,6 +51,14 @@ pub struct Unpacked {
 pub struct Booked {
     pub number: u8,
     pub length: usize,
+}
+
+// What a call for turns answers: how many places were written, 0 if refused, and the place served last.
+#[repr(C)]
+pub struct Allotted {
+    pub number: u8,
+    pub count: usize,
+    pub place: usize,
 }
 
 // 0, or the number of a refusal.
@@ -127,5 +136,23 @@ pub fn ratio_in(answer: Answer) -> i64
         Answer::Position(_) => 0,
         Answer::Worth(_, _, _) => 0,
         Answer::Ratio(ratio) => ratio,
+    }
+}
+
+// The figures of an answer to a call for turns at a place.
+pub fn allotted_by(answer: Turned, place: usize) -> Allotted
+    ensures { λ r. ⌜ r ≡ allottedBy answer place ⌝ }
+{
+    match answer {
+        Turned::Served(count, last) => Allotted {
+            number: 0,
+            count: count,
+            place: last,
+        },
+        Turned::Turns => Allotted {
+            number: 29,
+            count: 0,
+            place: place,
+        },
     }
 }

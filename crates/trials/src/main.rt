@@ -258,4 +258,7 @@ fn main() {
     trial_book::lengths();
     trial_book::ranges();
     trial_book::rooms();
+    trial_turns::orders();
+    trial_turns::calls();
+    trial_turns::limits();
 }

@@ -128,7 +128,7 @@ module _ (e : Engine) (rules : Rules e) where
           clean = rw (p .position) (clean (x .sheet) (limits-terms x (p .stood .limits)) h (x .sheet .steps - h) (end e u .rows) (omega (arith, p .place)) (p .rows));
         }
 
-    goes : (c : ℕ) → h + c ≤ x .sheet .steps → answers e u (back y ownRows c) ≡ says (pos (x .sheet .steps - (h + c)) ∷ [])
+    pub goes : (c : ℕ) → h + c ≤ x .sheet .steps → answers e u (back y ownRows c) ≡ says (pos (x .sheet .steps - (h + c)) ∷ [])
     unfolding callResult afterWalkCall
     goes c l =
         let p = placed e rules u y h w in
@@ -144,7 +144,7 @@ module _ (e : Engine) (rules : Rules e) where
         o .does (value-taken x (end e u .register) (end e u .walk) (end e u .rows) _ j k o .1 (on-way, l, m)) .said
 
     -- So the walk stands c steps further back.
-    back-steps-on : (c : ℕ) → h + c ≤ x .sheet .steps → Walked e (then u (back y ownRows c)) y (h + c)
+    pub back-steps-on : (c : ℕ) → h + c ≤ x .sheet .steps → Walked e (then u (back y ownRows c)) y (h + c)
     back-steps-on c l =
         record {
           opened = ap (λ k. k .opened) n ∙ w .opened;

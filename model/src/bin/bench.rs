@@ -10,6 +10,7 @@ use lavroudem_model::deck::{listing_by, Calls, CALLS, MAX_DECK};
 use lavroudem_model::refusal::Refusal;
 use lavroudem_model::register;
 use lavroudem_model::sheet::{Sheet, MAX_PERIODS};
+use lavroudem_model::turns::{Turn, MAX_LEFT, MAX_WALKS};
 use lavroudem_model::walk::{row_length, Value, Walk};
 use lavroudem_model::{decks, engine, fast};
 use std::hint::black_box;
@@ -21,6 +22,9 @@ const SHORT_CALLS: usize = 1_000;
 
 /// Calls of nanoseconds; all through the range of a coupon.
 const PACKED_COUPONS: u64 = 100_000;
+
+/// Room for all steps of the largest turn table.
+const TURNS: usize = MAX_WALKS * MAX_LEFT as usize;
 
 /// What the calls of one side work on.
 struct Desk {
@@ -34,6 +38,11 @@ struct Desk {
     row: Vec<u64>,
     nominals: Vec<i64>,
     values: Vec<i64>,
+    table: Vec<Turn>,
+    /// The same for the engine.
+    lent_table: Vec<lavroudem::Turn>,
+    place: usize,
+    list: Vec<u8>,
     deck: Vec<u8>,
     out: Vec<u8>,
 }
@@ -50,6 +59,7 @@ struct Side {
     packed: fn(&mut [u8], u64) -> Result<u64, u8>,
     /// The line of a book at the start of the desk's bytes.
     book: fn(&mut Desk) -> Result<usize, u8>,
+    turns: fn(&mut Desk) -> Result<usize, u8>,
 }
 
 const ENGINE: Side = Side {
@@ -72,6 +82,10 @@ const ENGINE: Side = Side {
     book: |d| {
         let out = &mut d.out[..LINE_ROOM];
         lavroudem::book(&d.nominals, &d.values, out).map_err(|refusal| refusal.number())
+    },
+    turns: |d| {
+        let answer = lavroudem::turns(&mut d.lent_table, &mut d.place, &mut d.list);
+        answer.map_err(|refusal| refusal.number())
     },
 };
 
@@ -96,6 +110,10 @@ const RUST: Side = Side {
     book: |d| {
         let out = &mut d.out[..LINE_ROOM];
         fast::book(&d.nominals, &d.values, out).map_err(|refusal| refusal.number())
+    },
+    turns: |d| {
+        let answer = fast::turns(&mut d.table, &mut d.place, &mut d.list);
+        answer.map_err(|refusal| refusal.number())
     },
 };
 
@@ -144,6 +162,8 @@ fn main() {
     compare(&[("packed", &sheet(1, 1, 1), packed)]);
     println!("# {SHORT_CALLS} books of {MAX_POSITIONS} positions");
     compare(&[("book", &sheet(1, 1, 1), book)]);
+    println!("# one call for the {TURNS} turns of a full table");
+    compare(&[("turns_full", &sheet(1, 1, 1), turns)]);
     compare_growth();
 }
 
@@ -244,6 +264,10 @@ fn opened(sheet: &Sheet) -> Desk {
         &mut premium_row,
     );
     answer.unwrap();
+    let table = [Turn {
+        walk,
+        left: MAX_LEFT,
+    }; MAX_WALKS];
     Desk {
         lent: engine::lend(sheet),
         sheet: sheet.clone(),
@@ -254,6 +278,10 @@ fn opened(sheet: &Sheet) -> Desk {
         row: vec![0; sheet.names + 1],
         nominals: through(MAX_NOMINAL, 611_953),
         values: through(MAX_VALUE, 123_456_789_012_345_677),
+        lent_table: engine::lend_table(&table),
+        table: table.to_vec(),
+        place: 0,
+        list: vec![0xFF; TURNS],
         deck: deck_of(sheet),
         out: vec![0; engine::deck_room(MAX_DECK)],
     }
@@ -328,8 +356,13 @@ fn floor_ms(entries: u64) -> f64 {
     best
 }
 
+/// The engine's desk and the other one; each has written its own table.
 fn same(one: &Desk, other: &Desk) -> bool {
-    one.walk == other.walk
+    let left = one.lent_table.iter().map(|turn| turn.left);
+    left.eq(other.table.iter().map(|turn| turn.left))
+        && one.place == other.place
+        && one.list == other.list
+        && one.walk == other.walk
         && one.default_row == other.default_row
         && one.premium_row == other.premium_row
         && one.row == other.row
@@ -392,4 +425,9 @@ fn book(side: &Side, desk: &mut Desk) {
         let length = (side.book)(black_box(desk));
         black_box(length).unwrap();
     }
+}
+
+fn turns(side: &Side, desk: &mut Desk) {
+    let written = (side.turns)(black_box(desk));
+    assert_eq!(black_box(written), Ok(TURNS));
 }

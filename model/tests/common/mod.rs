@@ -1,6 +1,7 @@
 //! Plain sheets for the trials, by shape; random ones come by seed. A desk
 //! has what the calls are lent, and edges are changes of one; the writes of a
-//! deck are read off its lines. Books are lists of positions.
+//! deck are read off its lines. Books are lists of positions, and turns come in
+//! lists of calls.
 
 // Each test file is built by itself and uses only a part of this.
 #![allow(dead_code, unused_imports)]
@@ -8,6 +9,7 @@
 pub mod books;
 pub mod desk;
 pub mod edges;
+pub mod turns;
 pub mod writes;
 
 pub use lavroudem_model::random::Random;

@@ -6,6 +6,7 @@ pub mod formulas;
 pub mod limits;
 pub mod orders;
 pub mod packed;
+pub mod turns;
 pub mod worked;
 
 use crate::arithmetic::{decimal, Ratio};

@@ -3,6 +3,7 @@
 
 use super::book::refused_book;
 use super::packed::{refused_reading, refused_writing};
+use super::turns::refused_turns;
 use super::{ensure, entries, same, table, Found};
 use crate::common::desk::Call;
 use crate::common::edges::{base, edges, Change};
@@ -139,7 +140,7 @@ pub fn orders_are_the_models(page: &str) -> Found {
         ("forward", Call::Forward),
     ];
     let rows = table(page, "| Call | Checks, in this order |")?;
-    same(rows.len(), calls.len() + 5, "orders")?;
+    same(rows.len(), calls.len() + 6, "orders")?;
     for (row, (name, call)) in rows.iter().zip(calls) {
         let numbers = faults(call).into_keys().collect();
         is_order(row, name, numbers, &|numbers| refused(call, numbers))?;
@@ -147,17 +148,18 @@ pub fn orders_are_the_models(page: &str) -> Found {
     is_order(&rows[7], "read packed", vec![2, 8, 30], &refused_reading)?;
     is_order(&rows[8], "write packed", vec![2, 8], &refused_writing)?;
     is_order(&rows[9], "book", vec![2, 28], &refused_book)?;
+    is_order(&rows[10], "turns", vec![29], &refused_turns)?;
     let of_a_call = faults(Call::Forward).into_keys();
     // A deck has no other starts than the one.
     let of_a_deck = of_a_call.filter(|&number| number != Refusal::Periods.number());
     let in_a_deck = of_a_deck.chain([14]).collect();
     is_order(
-        &rows[10],
+        &rows[11],
         "forward in a deck",
         in_a_deck,
         &refused_in_a_deck,
     )?;
-    is_order(&rows[11], "a command of a deck", vec![18, 19, 20], &stopped)
+    is_order(&rows[12], "a command of a deck", vec![18, 19, 20], &stopped)
 }
 
 /// A row has these numbers, in the order in which they are answered.

@@ -5,7 +5,7 @@ mod spans;
 
 use super::*;
 use crate::sheet::Lists;
-use crate::{BOOK_LENGTH, MAX_NOMINAL};
+use crate::{BOOK_LENGTH, MAX_NOMINAL, MAX_PLACES, MAX_STEPS};
 use std::mem::{offset_of, size_of};
 
 const HEADER: &str = include_str!("../../../c/lavroudem.h");
@@ -32,12 +32,14 @@ fn the_header_has_the_same_layout() {
         layout!(Layout lavroudem_sheet:
             pool attachments starts hazards discounts accruals elapsed coupons),
         layout!(Walk lavroudem_walk: open number position),
+        layout!(Turn lavroudem_turn: walk left),
         layout!(Opened lavroudem_opened: refusal walk),
         layout!(Moved lavroudem_moved: refusal position walk),
         layout!(Valued lavroudem_valued: refusal default_leg premium_leg net_value walk),
         layout!(Hedged lavroudem_hedged: refusal ratio walk),
         layout!(Unpacked lavroudem_unpacked: refusal coupon),
         layout!(Booked lavroudem_booked: refusal length),
+        layout!(Allotted lavroudem_allotted: refusal count place),
     ]
     .concat();
     let asserts =
@@ -122,6 +124,33 @@ fn the_length_of_a_refused_book_is_0() {
     }
 }
 
+/// An empty table, a place outside of it, one step too many and one byte too
+/// many: no place is counted, and the one served last comes back.
+#[test]
+fn the_count_of_refused_turns_is_0() {
+    let refused = [
+        (0, 0, 5, 4),
+        (2, 2, 5, 4),
+        (2, usize::MAX, 5, 4),
+        (2, 1, MAX_STEPS as u16 + 1, 4),
+        (2, 1, 5, MAX_PLACES + 1),
+    ];
+    for (walks, place, left, length) in refused {
+        let turn = Turn {
+            walk: Walk::FRESH,
+            left,
+        };
+        let mut table = vec![turn; walks];
+        let mut list = vec![0; length];
+        // SAFETY: each pointer and length are those of one list, which is lent
+        // to be written.
+        let allotted =
+            unsafe { lavroudem_turns(table.as_mut_ptr(), walks, place, list.as_mut_ptr(), length) };
+        let told = (allotted.refusal, allotted.count, allotted.place);
+        assert_eq!(told, (29, 0, place));
+    }
+}
+
 #[test]
 fn an_archive_of_this_version_is_taken() {
     expect_version(VERSION);
@@ -144,5 +173,5 @@ fn every_call_looks_at_the_version() {
         let name = call.split(['(', '<']).next().unwrap();
         assert!(body.starts_with("    same_version();\n"), "{name}");
     }
-    assert_eq!(calls.len(), 13);
+    assert_eq!(calls.len(), 14);
 }

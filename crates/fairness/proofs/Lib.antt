@@ -1,0 +1,6 @@
+pub mod Promise
+pub mod Calls
+pub mod Refuted
+pub mod Meant
+pub mod Examples
+pub mod Singly

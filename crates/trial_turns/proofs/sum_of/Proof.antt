@@ -1,0 +1,47 @@
+-- `trial_turns::sum_of` is safe and ends. The measure is how many bytes are left.
+use Prim.Native.Nat.{_≤_, _-_}
+use borrow.Author.Needs.{needs}
+use lib.ListN.{length}
+use Rattle.trial_turns.proofs.sum_of.Statement.{statement}
+use Rattle.trial_turns.proofs.sum_of.Tie as tie
+
+abbrev Inv-loop : tie.InvT-loop
+Inv-loop list sum₀ i₀ i-end sum i = i-end ≤ length list
+
+abbrev μ-loop : tie.MeasureT-loop
+μ-loop list sum₀ i₀ i-end sum i = i-end - i
+
+loop-holds : tie.Need-loop-holds Inv-loop μ-loop
+loop-holds c = search needs
+
+shared-slice-read-more : tie.Need-shared-slice-read-more Inv-loop μ-loop
+shared-slice-read-more c = search needs
+
+more-requires : tie.Need-more-requires Inv-loop μ-loop
+more-requires c κs = search needs
+
+add-i : tie.Need-add-i Inv-loop μ-loop
+add-i c = search needs
+
+loop-less : tie.Need-loop-less Inv-loop μ-loop
+loop-less c = search needs
+
+loop-again : tie.Need-loop-again Inv-loop μ-loop
+loop-again c = search needs
+
+returns : tie.Need-returns Inv-loop μ-loop
+returns c = search needs
+
+pub sum-of-spec : {M : Type 1} → statement M
+sum-of-spec =
+    tie.close
+    (tie.spec
+    Inv-loop
+    μ-loop
+    loop-holds
+    shared-slice-read-more
+    more-requires
+    add-i
+    loop-less
+    loop-again
+    returns)
