@@ -14,7 +14,7 @@ use Rattle.places.specs.Places.{taken, Outcome, asLent, served, amongFirst, ser
 use Rattle.places.proofs.Laws.{taken-long}
 use Rattle.places.proofs.Partway.{Says, served-refused, served-taken, first-long, first-short, served-length}
 use Rattle.turns.specs.declared.Turn.{Turn}
-use Rattle.turns.specs.Table.{stepsOf, withLeft, withSteps, fresh, leftAt, leftSet, copiedOut, copiedIn}
+use Rattle.turns.specs.Table.{stepsOf, withLeft, withSteps, leftAt, leftSet, copiedOut, copiedIn}
 use Rattle.turns.specs.Turns.{Leaves, turned}
 
 -- ---- lengths
@@ -25,8 +25,7 @@ length-copiedOut table left (suc k) = length-set (copiedOut table left k) k (lef
 
 pub length-copiedIn : (table : List Turn) (left : List ℕ) (k : ℕ) → length (copiedIn table left k) ≡ length table
 length-copiedIn table left zero = refl
-length-copiedIn table left (suc k) =
-    length-set (copiedIn table left k) k (withLeft (getD (copiedIn table left k) k fresh) (getD left k 0)) ∙ length-copiedIn table left k
+length-copiedIn table left (suc k) = length-set (copiedIn table left k) k _ ∙ length-copiedIn table left k
 
 pub length-steps : (table : List Turn) → length (stepsOf table) ≡ length table
 length-steps [] = refl
