@@ -181,8 +181,8 @@ struct lavroudem_pool {
 
 /*
  * Where a list stands among the numbers of a sheet. One that reaches past
- * their end is a shorter list. A list of another length than the pool asks
- * for is refused.
+ * their end is refused with 2 (1, where the pool is outside its limits), and
+ * so is a list of another length than the pool asks for.
  */
 struct lavroudem_span {
     size_t at;

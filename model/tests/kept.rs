@@ -319,7 +319,8 @@ fn every_cut_of_a_deck_is_covered() {
     assert!(judged > 16_000, "{judged}");
 }
 
-/// One write, forced before the next and before its line.
+/// One write, forced before the next and before its line. The lines before its
+/// own are shown by then: no figure comes out once its sheet is withdrawn.
 #[test]
 fn a_deck_writes_in_its_order() {
     let mut random = Random::new(4_141);
@@ -330,10 +331,19 @@ fn a_deck_writes_in_its_order() {
         let (mut kept, mut screen, journal) = opened(&register);
         journal.0.borrow_mut().clear();
         kept.run_deck(&deck, &mut screen).unwrap();
-        let disk = |event: &Event| !matches!(event, Event::Shown(_));
-        let found: Vec<Event> = journal.events().into_iter().filter(disk).collect();
-        let each = |it: &ByteWrite| [Event::Wrote(it.number, it.new), Event::Synced];
-        let expected: Vec<Event> = model.writes.iter().flat_map(each).collect();
+        let mut shown = 0;
+        let mut found = Vec::new();
+        for event in journal.events() {
+            match event {
+                Event::Shown(bytes) => shown = bytes,
+                event => found.push((shown, event)),
+            }
+        }
+        let each = |it: &ByteWrite| {
+            let events = [Event::Wrote(it.number, it.new), Event::Synced];
+            events.map(|event| (it.before, event))
+        };
+        let expected: Vec<_> = model.writes.iter().flat_map(each).collect();
         assert_eq!(found, expected);
     }
 }

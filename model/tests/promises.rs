@@ -164,7 +164,7 @@ fn rested_on(page: &str, definitions: &Definitions, of_the_listing: bool) -> BTr
         .map(|citation| (citation.path.to_string(), citation.names[0].to_string()));
     counted
         .filter(|(file, _)| {
-            ["deck/", "listings/", "returns/", "export/"].iter().any(|owner| file.starts_with(owner)) == of_the_listing
+            ["deck/", "listings/", "machine/", "returns/", "export/"].iter().any(|owner| file.starts_with(owner)) == of_the_listing
         })
         .flat_map(|key| definitions.below(key))
         .collect()
@@ -210,6 +210,33 @@ fn table_of_definitions_is_whole() {
     println!("{sum}");
     assert!(missing.is_empty(), "the table lacks {missing:#?}");
     assert!(page.contains(&sum), "the page lacks \"{sum}\"");
+}
+
+/// Names of the kit's libraries that a definition brings in, without the
+/// places of their operands.
+fn kit_names(text: &str) -> Vec<&str> {
+    let kits = ["use Prim.", "use mathlib.", "use lib."];
+    let brought = text.lines().filter(|line| kits.iter().any(|kit| line.starts_with(kit)));
+    let lists = brought.map(|line| line.split_once(".{").unwrap().1.strip_suffix('}').unwrap());
+    let names = lists.flat_map(|list| list.split(", "));
+    names.map(|name| name.trim_matches('_')).collect()
+}
+
+/// What the kit means by a name must be believed too, so the page has them all.
+#[test]
+fn names_of_the_kit_are_on_the_page() {
+    let page = page();
+    let (_, list) = page.split_once("And what the kit's libraries mean by their names").unwrap();
+    let (list, _) = list.split_once("\n### ").unwrap();
+    let told: BTreeSet<&str> = list.split('`').skip(1).step_by(2).collect();
+    let mut brought = BTreeSet::new();
+    for path in spec_files(&root().join("crates")) {
+        let text = fs::read_to_string(&path).unwrap();
+        brought.extend(kit_names(&text).into_iter().map(String::from));
+    }
+    assert!(brought.len() > 40, "{brought:?}");
+    let untold: Vec<_> = brought.iter().filter(|name| !told.contains(name.as_str())).collect();
+    assert!(untold.is_empty(), "the page does not name {untold:?}");
 }
 
 // ---- the amortisation

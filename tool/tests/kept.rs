@@ -3,7 +3,7 @@
 
 use lavroudem::{KeptRegister, BLANK_REGISTER, LIVE, MAX_DECK, WITHDRAWN};
 use std::fs::{self, File};
-use std::io::Write;
+use std::io::{BufRead, BufReader, Write};
 use std::path::{Path, PathBuf};
 use std::process::{Command, Output, Stdio};
 use std::sync::atomic::{AtomicUsize, Ordering};
@@ -183,6 +183,27 @@ fn a_listing_that_is_lost() {
     let command = command.arg("run").arg(folder.register()).arg(deck);
     let output = command.stdout(full).output().unwrap();
     assert_fault(&output, 5, "the register was written all the same");
+    assert_eq!(
+        fs::read(folder.register()).unwrap(),
+        blank_but(7, WITHDRAWN)
+    );
+}
+
+/// The lines before the withdraw fill the pipe, and nobody reads on.
+#[test]
+fn nothing_is_withdrawn_before_it_is_shown() {
+    let folder = Folder::new();
+    new(&folder.register());
+    let deck = [&[0x06, 7][..], &[0x08; 60_000], &[0x07, 7]].concat();
+    let mut command = kept();
+    let command = command.arg("run").arg(folder.register());
+    let command = command.arg(folder.file("deck", &deck));
+    let mut child = command.stdout(Stdio::piped()).spawn().unwrap();
+    let mut lines = BufReader::new(child.stdout.take().unwrap()).lines();
+    assert_eq!(lines.next().unwrap().unwrap(), "issue 0");
+    assert_eq!(fs::read(folder.register()).unwrap(), blank_but(7, LIVE));
+    assert_eq!(lines.last().unwrap().unwrap(), "withdraw 0");
+    assert!(child.wait().unwrap().success());
     assert_eq!(
         fs::read(folder.register()).unwrap(),
         blank_but(7, WITHDRAWN)

@@ -4,8 +4,9 @@
 use lavroudem_model::deck::MAX_DECK;
 use lavroudem_model::decks;
 use lavroudem_model::random::Random;
-use lavroudem_tool::form::{looks_like_text, Form};
+use lavroudem_tool::form::{looks_like_text, starts_like_text, Form};
 use lavroudem_tool::input::{self, MAX_TEXT};
+use lavroudem_tool::quote;
 use lavroudem_tool::text::{assemble, assemble_with_lines, disassemble, read, Assembled, Lines};
 use std::io::{self, Read};
 use std::path::Path;
@@ -321,7 +322,37 @@ fn text_is_told_from_a_deck() {
     assert!(!looks_like_text(&worked_deck()));
     assert!(!looks_like_text(b"open\x00"));
     assert!(!looks_like_text(b"open\x7F"));
+    assert!(!looks_like_text("open # \u{9B}31m".as_bytes()));
     assert!(!looks_like_text(b"open \xFF"));
+}
+
+/// Wherever the start of a text ends, it may be text. A broken character is
+/// none, whatever follows it.
+#[test]
+fn a_cut_character_is_told_from_a_broken_one() {
+    for text in ["open # größer", "# 100 €\n", "# \u{1D11E}\n"] {
+        for end in 0..=text.len() {
+            let start = &text.as_bytes()[..end];
+            assert!(starts_like_text(start), "{start:X?}");
+            assert_eq!(looks_like_text(start), text.is_char_boundary(end));
+        }
+    }
+    let broken: [&[u8]; 7] = [
+        b"# \xFF",
+        b"# \x80",
+        b"# \xC3 ",
+        b"# \xC3\xC3",
+        b"# \xE2\x82\n",
+        b"# \xED\xA0",
+        b"# \xF0\x9D\x84\xF0",
+    ];
+    for bytes in broken {
+        assert!(!starts_like_text(bytes), "{bytes:X?}");
+        assert!(!looks_like_text(bytes), "{bytes:X?}");
+    }
+    // A control character is odd before a cut one too.
+    assert!(!starts_like_text(b"open\0"));
+    assert!(!starts_like_text(b"open\0 # \xC3"));
 }
 
 fn as_deck(bytes: &[u8], form: Form) -> Result<Vec<u8>, String> {
@@ -347,25 +378,23 @@ fn a_form_can_be_forced() {
 fn a_byte_order_mark_is_skipped() {
     for form in [Form::Text, Form::Either] {
         assert_eq!(as_deck(b"\xEF\xBB\xBFopen\n", form), Ok(vec![0x08]));
+        let odd = as_deck(b"\xEF\xBB\xBFopen \xFF\n", form).unwrap_err();
+        let told = "line 1: byte 9 of the line is FF, ";
+        assert!(odd.starts_with(told), "{odd}");
     }
-    let odd = as_deck(b"\xEF\xBB\xBFopen \xFF\n", Form::Either).unwrap_err();
-    assert!(
-        odd.starts_with("line 1: byte 9 of the line is FF, "),
-        "{odd}"
-    );
 }
 
 const UTF_16: &str = "line 1: this is UTF-16; a text is UTF-8";
 
 const UTF_32: &str = "line 1: this is UTF-32; a text is UTF-8";
 
-const NEARLY_TEXT: [(&[u8], &str); 10] = [
+const NEARLY_TEXT: [(&[u8], &str); 13] = [
     (
         b"open\nopen # \xFF\n",
         "line 2: byte 8 of the line is FF, which is not UTF-8",
     ),
     (
-        b"open\n\x0Cissue 7\n",
+        b"open\n\x0Cissue\x0C7\n",
         "line 2: byte 1 of the line is 0C, a control character",
     ),
     (
@@ -375,6 +404,18 @@ const NEARLY_TEXT: [(&[u8], &str); 10] = [
     (
         b"open\n\0",
         "line 2: byte 1 of the line is 00, a control character",
+    ),
+    (
+        b"7\nopen \xFF\n",
+        "line 2: byte 6 of the line is FF, which is not UTF-8",
+    ),
+    (
+        b"\t open \xFF\n",
+        "line 1: byte 8 of the line is FF, which is not UTF-8",
+    ),
+    (
+        b"open # \xC3",
+        "line 1: byte 8 of the line is C3, which is not UTF-8",
     ),
     (b"\xFF\xFEo\0p\0e\0n\0", UTF_16),
     (b"\xFE\xFF\0o\0p\0e\0n", UTF_16),
@@ -396,6 +437,31 @@ fn what_is_nearly_text_is_told_so() {
     }
     let mistake = as_deck(b"open\nopen # \xFF\n", Form::Text).unwrap_err();
     assert!(mistake.starts_with("line 2: byte 8 of the line is FF, "));
+}
+
+#[test]
+fn a_text_longer_than_a_deck_is_told_so() {
+    let text = [&b"# on and on\n".repeat(6_000)[..], b"\xFF\n"].concat();
+    let mistake = as_deck(&text, Form::Either).unwrap_err();
+    assert!(mistake.starts_with("line 6001: byte 1 of the line is FF, "));
+}
+
+/// A line of a text may stand in the operands of a deck. If that runs to its
+/// end, or has too many of a kind, it is the engine's.
+#[test]
+fn a_deck_with_words_is_not_nearly_text() {
+    let step = b"\x04\nopen\0\0\0";
+    let pool = [0x01; 10];
+    let calls = vec![0x08; MAX_DECK - step.len() - 2];
+    let decks: [&[&[u8]]; 3] = [
+        &[step, &[0x06, 7]],
+        &[step, &calls, &[0x06, 7]],
+        &[step, &pool, &pool],
+    ];
+    for deck in decks.map(|parts| parts.concat()) {
+        assert_eq!(as_deck(&deck, Form::Either), Ok(deck));
+    }
+    assert!(as_deck(&[&step[..], &[0x06]].concat(), Form::Either).is_err());
 }
 
 /// The verdict on a deck, damaged or not, is the engine's.
@@ -436,7 +502,8 @@ fn an_endless_file_is_read_no_further_than_it_matters() {
         (b"# on and on\n", Form::Binary, MAX_DECK),
         (b"# on and on\n", Form::Either, MAX_TEXT),
         (b"# on and on\n", Form::Text, MAX_TEXT),
-        ("# größer\n".as_bytes(), Form::Either, MAX_TEXT),
+        // What is read of it first ends within the ß.
+        ("# größe\n".as_bytes(), Form::Either, MAX_TEXT),
         (b"\0", Form::Text, MAX_TEXT),
     ] {
         let mut endless = Endless { unit, given: 0 };
@@ -495,6 +562,23 @@ fn words_are_cut_and_escaped_in_errors() {
     let escape = assemble("\u{1B}[31mred\u{202E}").unwrap_err().to_string();
     let shown = "line 1: no command `\\u{1b}[31mred\\u{202e}`; there are pool, ";
     assert!(escape.starts_with(shown), "{escape}");
+}
+
+/// Of a word 40 characters are shown, escaped or not, and dots for the rest.
+/// A file's name stays whole.
+#[test]
+fn words_are_cut_behind_their_fortieth_character() {
+    let as_they_are = ["y", "ß", "'", "\"", "\\"].map(|letter| (letter, letter));
+    let escaped = [("\u{1B}", "\\u{1b}"), ("\t", "\\t")];
+    for (letter, shown) in as_they_are.into_iter().chain(escaped) {
+        for length in [0, 39, 40, 41, 42] {
+            let (word, whole) = (letter.repeat(length), shown.repeat(length));
+            let cut = shown.repeat(40) + "...";
+            let expected = if length > 40 { &cut } else { &whole };
+            assert_eq!(&quote::word(&word), expected, "{length}");
+            assert_eq!(quote::name(&word), whole, "{length}");
+        }
+    }
 }
 
 /// What an editor shows as a line of its own is one, or a mistake: no command

@@ -12,7 +12,7 @@ use crate::VERSION;
 use std::sync::Once;
 
 /// Where a list stands among the numbers of a sheet. One that reaches past
-/// their end is a shorter list.
+/// their end is refused.
 #[repr(C)]
 #[derive(Clone, Copy, Debug, PartialEq, Eq, Hash)]
 pub(crate) struct Span {

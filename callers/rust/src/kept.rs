@@ -171,7 +171,8 @@ impl<S: RegisterStore> KeptRegister<S> {
 
     /// Runs a deck on the register and hands its listing to `out`. Each
     /// accepted issue and withdraw is one write, in their order, forced to the
-    /// disk before the next and before its line goes to `out`.
+    /// disk before the next and before its line goes to `out`. The lines before
+    /// its own go there first: no figure comes out once its sheet is withdrawn.
     ///
     /// Where `out` takes no more, the register is written all the same, and
     /// the error is [`KeptError::Output`]. After any other error `out` has had

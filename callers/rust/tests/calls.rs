@@ -414,6 +414,30 @@ fn sheets_beyond_all_limits() {
     assert_eq!(sheet().forward(&register, 3), Err(Refusal::OutOfSteps));
 }
 
+/// The lengths of a row and of a forward row, on both sides of the limits.
+#[test]
+fn rows_up_to_the_limits() {
+    let lengths = [
+        (MAX_NAMES, MAX_TRANCHES, (9 * 126, 126)),
+        (MAX_NAMES + 1, MAX_TRANCHES, (0, 0)),
+        (MAX_NAMES, MAX_TRANCHES + 1, (0, 126)),
+        (MAX_NAMES + 1, MAX_TRANCHES + 1, (0, 0)),
+        (usize::MAX, usize::MAX, (0, 0)),
+        (1, 1, (4, 2)),
+        (0, 0, (1, 1)),
+    ];
+    for (names, tranches, expected) in lengths {
+        let pool = Pool {
+            names,
+            tranches,
+            ..POOL
+        };
+        let sheet = Sheet::new(pool, LISTS);
+        let found = (sheet.row_length(), sheet.forward_row_length());
+        assert_eq!(found, expected, "{names} names, {tranches} tranches");
+    }
+}
+
 const WORKED_DECK: &[u8] = include_bytes!("../../../crates/listing/stdin");
 const WORKED_LISTING: &[u8] = include_bytes!("../../../crates/listing/stdout");
 

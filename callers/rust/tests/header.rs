@@ -1,5 +1,6 @@
-//! The C header and this crate give the same numbers and words, and the
-//! header declares the functions and structs that the engine exports.
+//! The C header and this crate give the same numbers and words. The header
+//! declares the functions and structs that the engine exports, and this crate
+//! calls the functions as the header declares them.
 
 use lavroudem::*;
 use std::fs;
@@ -164,6 +165,24 @@ fn every_exported_function_is_declared() {
     assert_eq!(functions.len(), 16);
 }
 
+const CALLED: &str = include_str!("../src/archive.rs");
+
+/// Parameter by parameter, each with its name and type. All but the version
+/// that is only linked are called.
+#[test]
+fn every_function_is_called_as_it_is_declared() {
+    let header = plain_header();
+    let (_, block) = CALLED.split_once("\nextern \"C\" {\n").unwrap();
+    let (block, _) = block.split_once("\n}\n").unwrap();
+    let functions: Vec<&str> = block.split("fn ").skip(1).collect();
+    for function in &functions {
+        let declaration = declaration(function);
+        assert!(header.contains(&declaration), "{declaration}");
+    }
+    let exported = EXPORTED.matches("pub extern \"C\" fn ").count();
+    assert_eq!(functions.len(), exported - 1);
+}
+
 /// The structs of the exported functions, each in the crate that owns it.
 #[test]
 fn every_exported_struct_is_declared() {
@@ -258,11 +277,12 @@ fn field_called<'a>(answer: &str, field: &'a str) -> &'a str {
     }
 }
 
-/// The C declaration of a function as the engine writes it.
+/// The C declaration of a function as the engine or the crate writes it.
 fn declaration(function: &str) -> String {
     let (name, rest) = function.split_once('(').unwrap();
     let (parameters, rest) = rest.split_once(')').unwrap();
     let answer = rest.split_whitespace().nth(1).unwrap();
+    let answer = answer.trim_end_matches(';');
     let pairs = parameters
         .split(',')
         .filter_map(|pair| pair.split_once(':'));
@@ -285,22 +305,30 @@ fn called<'a>(function: &str, parameter: &'a str) -> &'a str {
     }
 }
 
-/// A parameter in C; a slice is a pointer and a length.
+/// A parameter in C. A slice of the engine is a pointer and a length, which
+/// the crate writes out.
 fn declared(name: &str, kind: &str) -> String {
-    let (qualifier, entry) = match kind.strip_prefix("&mut [") {
-        Some(entry) => ("", entry),
-        None => match kind.strip_prefix("&[") {
-            Some(entry) => ("const ", entry),
-            None => return format!("{} {name}", plain(kind)),
-        },
-    };
-    let entry = plain(entry.trim_end_matches(']'));
     // `register` is a word of C.
-    let pointer = name.replace("register", "register_bytes");
-    format!("{qualifier}{entry} *{pointer}, size_t {name}_length")
+    let register_bytes = name.replace("register", "register_bytes");
+    let pointer = |entry: &str| format!("{} *{register_bytes}", plain(entry));
+    let slice = |entry: &str| {
+        let entry = entry.trim_end_matches(']');
+        format!("{}, size_t {name}_length", pointer(entry))
+    };
+    if let Some(entry) = kind.strip_prefix("&mut [") {
+        slice(entry)
+    } else if let Some(entry) = kind.strip_prefix("&[") {
+        format!("const {}", slice(entry))
+    } else if let Some(entry) = kind.strip_prefix("*mut ") {
+        pointer(entry)
+    } else if let Some(entry) = kind.strip_prefix("*const ") {
+        format!("const {}", pointer(entry))
+    } else {
+        format!("{} {name}", plain(kind))
+    }
 }
 
-/// A type in C that is no slice.
+/// A type in C that is no list.
 fn plain(kind: &str) -> String {
     match kind {
         "bool" => "bool".into(),
@@ -309,6 +337,8 @@ fn plain(kind: &str) -> String {
         "u64" => "uint64_t".into(),
         "i64" => "int64_t".into(),
         "usize" => "size_t".into(),
+        // The crate's own sheet has its numbers too.
+        "Layout" => plain("Sheet"),
         path => {
             let name = path.rsplit("::").next().unwrap();
             format!("struct lavroudem_{}", name.to_lowercase())

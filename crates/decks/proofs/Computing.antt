@@ -34,7 +34,7 @@ use Rattle.figures.specs.Replies.{worth}
 use Rattle.lines.specs.Text.{decimal, signed, field}
 use Rattle.commands.specs.Commands.{lowFirst, operands, commands, decoded, commandAt, entrySize, orderSize}
 use Rattle.entries.specs.Draft.{fractions, hasRoom, added}
-use Rattle.machine.specs.Rooms.{openInRooms, backInRooms, valueInRooms, ratioInRooms, forwardInRow, countSaid, distributionInRow}
+use Rattle.machine.specs.Rooms.{openInRooms, backInRooms, valueInRooms, ratioInRooms, forwardInRow, countSaid, countInRow, distributionInRow}
 use Rattle.machine.specs.Transitions.{transitionOf}
 use Rattle.words.specs.Words.{word}
 use Rattle.render.specs.Lines.{deckWord, fields, answerText, line, orderLine, deckLine}
@@ -42,6 +42,10 @@ use Rattle.listings.specs.Effects.{entryEffect, orderEffect, effectOf}
 use Rattle.listings.specs.ListingFrom.{listingFrom}
 use Rattle.listings.specs.RegisterFrom.{registerFrom}
 use Rattle.listings.specs.Listing.{listingOn, registerAfter}
+use Rattle.walk.specs.CallLists.{afterWrite, callResult, noted}
+use Rattle.walk.specs.Power.{operate, eventLeaves, withdrew}
+use Rattle.listings.specs.Power.{foundInOrder, foundInCommand, foundFrom, foundAfter, orderWithdrew, commandWithdrew, withdrewFrom, withdrewAfter}
+use Rattle.listings.specs.Power.{runLeaves, runWithdrew, stateAfterRuns, runsWithdrew}
 use Rattle.decks.specs.Limits.{times}
 
 -- what makes a line of an answer
@@ -96,7 +100,7 @@ commandsComputed = tt
 
 -- entries and orders
 unfoldable machineComputed : Unit {0}
-unfolding fractions hasRoom added openInRooms backInRooms valueInRooms ratioInRooms forwardInRow countSaid distributionInRow transitionOf
+unfolding fractions hasRoom added openInRooms backInRooms valueInRooms ratioInRooms forwardInRow countSaid countInRow distributionInRow transitionOf
 machineComputed = tt
 
 -- the engine, and the deck over it
@@ -107,3 +111,13 @@ engineComputed = tt
 unfoldable pub computed : Unit {0}
 unfolding engineComputed printed commandsComputed machineComputed entryEffect orderEffect effectOf listingFrom registerFrom listingOn registerAfter times
 computed = tt
+
+-- a deck in which the power fails
+unfoldable pub cutComputed : Unit {0}
+unfolding computed foundInOrder foundInCommand foundFrom foundAfter orderWithdrew commandWithdrew withdrewFrom withdrewAfter
+cutComputed = tt
+
+-- calls and runs as events
+unfoldable pub eventsComputed : Unit {0}
+unfolding cutComputed afterWrite callResult noted operate eventLeaves withdrew runLeaves runWithdrew stateAfterRuns runsWithdrew
+eventsComputed = tt

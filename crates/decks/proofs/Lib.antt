@@ -1,3 +1,4 @@
 pub mod Computing
 pub mod Many
 pub mod Printed
+pub mod Zeros

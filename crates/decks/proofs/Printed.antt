@@ -2,9 +2,9 @@
 use mathlib.Core.Path.{refl, sym}
 use native.Mathlib.Omega.{arith}
 use Rattle.listings.proofs.Laws as Laws
-use Rattle.decks.specs.Registers.{RegistersLeft}
+use Rattle.decks.specs.Registers.{RegistersLeft, RunsCut, RunsCounted}
 use Rattle.decks.specs.Printed.{CallListings, OpenListings, ElapsedOpenListings, ElapsedListings, RatioListings, FullListings, LongListings, DeckListings}
-use Rattle.decks.proofs.Computing.{computed}
+use Rattle.decks.proofs.Computing.{computed, cutComputed, eventsComputed}
 use Rattle.decks.proofs.Many as Many
 
 called : CallListings
@@ -97,6 +97,10 @@ filled =
       one-coupon-more = refl;
       hazards = refl;
       one-hazard-more = refl;
+      one-name-more = refl;
+      one-step-more = refl;
+      one-slice-more = refl;
+      largest-rows = refl;
     }
 
 long : LongListings
@@ -133,4 +137,35 @@ registers =
       short = refl;
       short-left = refl;
       oversized = λ register deck h. sym (Laws.oversized-left register deck h);
+    }
+
+pub cut : RunsCut
+unfolding cutComputed
+cut =
+    record {
+      issue = refl;
+      issue-can-be = refl;
+      withdraw = refl;
+      withdraw-can-be = refl;
+      entry = refl;
+      back = refl;
+      value = refl;
+      ended = refl;
+      refused = refl;
+      stopped = refl;
+      not-yet = refl;
+      withdrew = refl;
+    }
+
+pub counted : RunsCounted
+unfolding eventsComputed
+counted =
+    record {
+      ran-left = λ rows. refl;
+      ran-withdrew = λ rows. refl;
+      cut-left = λ w rows. refl;
+      cut-in-withdraw = λ w rows. refl;
+      cut-behind = λ w rows. refl;
+      called-left = λ c w rows. refl;
+      called-withdrew = λ c w rows. refl;
     }

@@ -290,3 +290,41 @@ unknownFirst =
 abbrev pub oversized : List ℕ
 oversized =
     100 ∷ 101 ∷ 99 ∷ 107 ∷ 32 ∷ 50 ∷ 48 ∷ 32 ∷ 54 ∷ 53 ∷ 53 ∷ 51 ∷ 54 ∷ 10 ∷ []  -- deck 20 65536
+
+-- ---- The largest rows: 125 names in eight slices, each default certain
+
+abbrev pub largestPool : List ℕ
+largestPool =
+    0x01 ∷ 0x7D ∷ 0x01 ∷ 0x00 ∷ 0x08 ∷ 0x00 ∷ 0x00 ∷ 0x00 ∷ 0x00 ∷ 0x01 ∷ []  -- pool 125 1 8 0 1
+
+abbrev pub certain : List ℕ
+certain =
+    0x03 ∷ 0x00 ∷ 0xCA ∷ 0x9A ∷ 0x3B ∷ []  -- hazard 1000000000
+
+abbrev pub lastStep : List ℕ
+lastStep =
+    0x04 ∷ 0x00 ∷ 0xCA ∷ 0x9A ∷ 0x3B ∷ 0x00 ∷ 0xCA ∷ 0x9A ∷ 0x3B ∷ []  -- step 1000000000 1000000000
+
+abbrev pub largestCalls : List ℕ
+largestCalls =
+    0x06 ∷ 0x01  -- issue 1
+    ∷ 0x08  -- open
+    ∷ 0x0C ∷ 0x01 ∷ 0x00 ∷ 0x01  -- forward 1 1
+    ∷ 0x0C ∷ 0x01 ∷ 0x00 ∷ 0x7D  -- forward 1 125
+    ∷ 0x0C ∷ 0x01 ∷ 0x00 ∷ 0x7E  -- forward 1 126
+    ∷ 0x0C ∷ 0x02 ∷ 0x00 ∷ 0x7E ∷ []  -- forward 2 126
+
+abbrev pub largestListing : List ℕ
+largestListing =
+    105 ∷ 115 ∷ 115 ∷ 117 ∷ 101 ∷ 32 ∷ 48 ∷ 10  -- issue 0
+    ∷ 111 ∷ 112 ∷ 101 ∷ 110 ∷ 32 ∷ 48 ∷ 10  -- open 0
+    ∷ 102 ∷ 111 ∷ 114 ∷ 119 ∷ 97 ∷ 114 ∷ 100 ∷ 32 ∷ 48 ∷ 32 ∷ 49 ∷ 48 ∷ 48 ∷ 48 ∷ 48 ∷ 48 ∷ 48 ∷ 48 ∷ 48 ∷ 48 ∷ 10  -- forward 0 1000000000
+    ∷ 102 ∷ 111 ∷ 114 ∷ 119 ∷ 97 ∷ 114 ∷ 100 ∷ 32 ∷ 48 ∷ 32 ∷ 48 ∷ 10  -- forward 0 0
+    ∷ 102 ∷ 111 ∷ 114 ∷ 119 ∷ 97 ∷ 114 ∷ 100 ∷ 32 ∷ 49 ∷ 52 ∷ 10  -- forward 14
+    ∷ 102 ∷ 111 ∷ 114 ∷ 119 ∷ 97 ∷ 114 ∷ 100 ∷ 32 ∷ 49 ∷ 51 ∷ 10 ∷ []  -- forward 13
+
+-- ---- The limits of a pool: names, the two bytes of the steps, slices
+
+-- pool n m r 0 255
+abbrev pub pool : ℕ → ℕ → ℕ → ℕ → List ℕ
+pool n low high r = 0x01 ∷ n ∷ low ∷ high ∷ r ∷ 0x00 ∷ 0x00 ∷ 0x00 ∷ 0x00 ∷ 0xFF ∷ []

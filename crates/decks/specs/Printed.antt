@@ -15,7 +15,7 @@ use Rattle.decks.specs.Limits.{offScale, flatHedge, eightSlices, secondP
 use Rattle.decks.specs.Limits.{poolCutShort, secondPoolCutShort, nineCuts, tenthCut, tooManyCuts, hazardAndStep, nineCoupons}
 use Rattle.decks.specs.Limits.{tenthCoupon, tooManyCoupons, sliceCalls, sliceListing, times, manyNames, hazard, nameCalls}
 use Rattle.decks.specs.Limits.{nameListing, tooManyHazards, step, issueSeven, issueLine, tooManySteps, fraction, tooManyFractions}
-use Rattle.decks.specs.Limits.{unknownFirst, oversized}
+use Rattle.decks.specs.Limits.{unknownFirst, oversized, largestPool, certain, lastStep, largestCalls, largestListing, pool}
 
 -- Every command but 0D, and every kind of line, accepted and refused.
 pub record CallListings : Type 0 where
@@ -83,7 +83,8 @@ pub record RatioListings : Type 0 where
   pub off-scale : listing (ratios million one) ≡ offScale
   pub flat : listing (ratios tenMillion none) ≡ flatHedge
 
--- Refusal 20: a second pool, the tenth cut and coupon, hazard 126. As many as there may be go on to a line.
+-- Refusal 20: a second pool, the tenth cut and coupon, hazard 126. As many as there may be go on to a line; with all of them the rows have their most
+-- entries, 9 × 126, and forward's 126. A pool of 126 names, 3,651 steps or 9 slices is refused by 1.
 pub record FullListings : Type 0 where
   pub second-pool : listing (eightSlices ++ eightSlices) ≡ secondPool
   pub cut-short-first : listing (eightSlices ++ poolCutShort) ≡ secondPoolCutShort
@@ -92,6 +93,10 @@ pub record FullListings : Type 0 where
   pub one-coupon-more : listing (eightSlices ++ (nineCuts ++ (hazardAndStep ++ (nineCoupons ++ tenthCoupon)))) ≡ tooManyCoupons
   pub hazards : listing (manyNames ++ (times 125 hazard ++ nameCalls)) ≡ nameListing
   pub one-hazard-more : listing (manyNames ++ (times 125 hazard ++ hazard)) ≡ tooManyHazards
+  pub one-name-more : listing (pool 0x7E 0x01 0x00 0x01 ++ issueOpen) ≡ opens 1
+  pub one-step-more : listing (pool 0x01 0x43 0x0E 0x01 ++ issueOpen) ≡ opens 1
+  pub one-slice-more : listing (pool 0x01 0x01 0x00 0x09 ++ issueOpen) ≡ opens 1
+  pub largest-rows : listing (largestPool ++ (nineCuts ++ (times 125 certain ++ (lastStep ++ (nineCoupons ++ largestCalls))))) ≡ largestListing
 
 -- Refusal 20: step 3,651, fraction 3,651 and byte 65,537.
 pub record LongListings : Type 0 where

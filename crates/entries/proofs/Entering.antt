@@ -13,11 +13,12 @@ use Rattle.sheet.specs.declared.Pool as Declared
 use Rattle.sheet.specs.declared.Span.{Span}
 use Rattle.sheet.specs.declared.Sheet.{Sheet}
 use Rattle.sheet.specs.Spans.{listIn}
+use Rattle.sheet.proofs.Spans.{list-long}
 use Rattle.sheet.specs.Brought.{brought}
 use Rattle.entries.specs.declared.Layout.{Layout}
 use Rattle.entries.specs.Draft.{Draft, hasRoom, added}
 use Rattle.entries.specs.Layouts.{elapsedAt, elapsedSpan, broughtSpan, emptyLayout, draftIn, Blank, LayoutLimits, Leaves, longer, stored}
-use Rattle.entries.proofs.Appending.{stored-long, list-long, list-grown, list-behind, list-behind-two, list-ahead}
+use Rattle.entries.proofs.Appending.{stored-long, list-grown, list-behind, list-behind-two, list-ahead}
 use Rattle.entries.proofs.Blanks.{blank-stays, brought-at, brought-as}
 
 -- a layout with another pool, or other spans

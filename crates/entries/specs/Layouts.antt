@@ -1,5 +1,5 @@
 -- What a layout and its numbers stand for.
-use Prim.Native.Nat.{ℕ, zero, suc, _+_, _≤_}
+use Prim.Native.Nat.{ℕ, zero, suc, _+_, _≤_, min}
 use mathlib.Core.Path.{_≡_}
 use mathlib.Core.Bool.{false}
 use mathlib.Core.List.{List}
@@ -17,9 +17,9 @@ elapsedAt = 7444
 abbrev pub elapsedSpan : ℕ → Span
 elapsedSpan length = record { at = elapsedAt; length = length }
 
--- Those that a call brings: those entered, or else a zero a step. Of more than 3,650 steps the numbers end before.
+-- Those that a call brings: those entered, or else a zero a step, as far as there is room.
 unfoldable pub broughtSpan : ℕ → ℕ → Span
-broughtSpan zero steps = elapsedSpan steps
+broughtSpan zero steps = elapsedSpan (min steps 3650)
 broughtSpan (suc entered) steps = elapsedSpan (suc entered)
 
 abbrev pub draftIn : Layout → List ℕ → Draft

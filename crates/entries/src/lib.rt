@@ -124,19 +124,25 @@ fn append(span: Span, numbers: &mut [u64], number: u64) -> Span
     }
 }
 
-// Where the elapsed fractions stand that a call brings: those entered, or else a zero a step.
+// Where the elapsed fractions stand that a call brings: those entered, or else a zero a step, as far as there is room.
 fn brought_span(entered: usize, steps: usize) -> Span
     ensures { λ r. ⌜ r ≡ broughtSpan entered steps ⌝ }
 {
-    if entered == 0 {
+    if entered != 0 {
         return Span {
             at: ELAPSED,
-            length: steps,
+            length: entered,
+        };
+    }
+    if STEPS_MOST < steps {
+        return Span {
+            at: ELAPSED,
+            length: STEPS_MOST,
         };
     }
     Span {
         at: ELAPSED,
-        length: entered,
+        length: steps,
     }
 }
 

@@ -21,7 +21,7 @@ use Rattle.rows.specs.Rows.{Rows}
 use Rattle.walk.specs.Answers.{Said, saidOf}
 use Rattle.walk.specs.Calls.{orOutcome, openTests, openCall}
 use Rattle.machine.specs.Machine.{Machine}
-use Rattle.machine.specs.Rooms.{lentRows, openInRooms, backInRooms, valueInRooms, ratioInRooms, forwardInRow, countSaid, distributionInRow}
+use Rattle.machine.specs.Rooms.{lentRows, openInRooms, backInRooms, valueInRooms, ratioInRooms, forwardInRow, countSaid, countInRow, distributionInRow}
 use Rattle.machine.specs.Transitions.{transitionOf}
 use Rattle.machine.proofs.LentRooms.{said-off, said-count}
 use Rattle.render.specs.Lines.{width}
@@ -62,7 +62,7 @@ pub record Short (o : Order) (s : Machine) : Type 0 where
   pub room : 10 + width (transitionOf o s .said) ≤ 96
 
 pub line-short : (o : Order) (s : Machine) → Short o s
-unfolding transitionOf orderSize openInRooms distributionInRow
+unfolding transitionOf orderSize openInRooms countInRow distributionInRow
 line-short (Issue y) s = record { short = lit≤ tt; room = lit≤ tt }
 line-short (Withdraw y) s = record { short = lit≤ tt; room = lit≤ tt }
 line-short Open s =

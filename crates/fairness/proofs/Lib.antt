@@ -3,4 +3,5 @@ pub mod Calls
 pub mod Refuted
 pub mod Meant
 pub mod Examples
-pub mod Singly
+pub mod InTurns
+pub mod WrongBacks

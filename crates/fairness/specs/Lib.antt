@@ -2,4 +2,5 @@ pub mod Promise
 pub mod Refuted
 pub mod Meant
 pub mod Examples
-pub mod Singly
+pub mod InTurns
+pub mod WrongBacks

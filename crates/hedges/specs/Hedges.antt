@@ -23,7 +23,7 @@ jumpOf coupon here next =
     pos 10_000_000 *ℤ (changeOf (here .loss) (next .loss) +ℤ changeOf (here .default) (next .default))
     -ℤ pos coupon *ℤ changeOf (here .premium) (next .premium)
 
--- The figures that a jump takes. Premium legs are at most 10 × B today, and may grow to 18 × B within 64 bits.
+-- The figures that a jump takes. Premium legs keep to a ceiling of 10 × B + 7,425, and may grow to 18 × B within 64 bits.
 pub record Figures (x : Node) : Type 0 where
   pub loss : x .loss ≤ B
   pub default : x .default ≤ B

@@ -12,6 +12,7 @@ use Rattle.lines.proofs.Laws.{wrote-both, wrote-text, wrote-none, wrote-long}
 use Rattle.commands.specs.Commands.{commandAt}
 use Rattle.walk.specs.Answers.{fresh}
 use Rattle.sheet.specs.Spans.{listIn}
+use Rattle.sheet.proofs.Spans.{list-within, list-none}
 use Rattle.sheet.specs.Brought.{brought}
 use Rattle.entries.specs.Draft.{noPool, emptyDraft}
 use Rattle.entries.specs.Layouts.{elapsedAt, LayoutLimits, Blank}
@@ -41,17 +42,21 @@ abbrev pub Finished : (all left before out : List ℕ) → Progress → List ℕ
 Finished all left before out p register = Wrote before 0 all out (p .end) × (p .end ≤ length before) × (register ≡ left)
 
 -- the one start stands behind the room for entries
-one-start : (numbers : List ℕ) → length numbers ≡ elapsedAt + 3650 → getD numbers 7443 0 ≡ 1 → take 1 (drop 7443 numbers) ≡ 1 ∷ []
+one-start : (numbers : List ℕ) → length numbers ≡ elapsedAt + 3650 → getD numbers 7443 0 ≡ 1 → listIn (record { at = 7443; length = 1 }) numbers ≡ 1 ∷ []
 one-start numbers long one =
     let h : 7443 < length numbers = omega arith in
-    ap (take 1) (drop-cons numbers 7443 0 h) ∙ ap (λ (a : ℕ). a ∷ []) one
+    list-within (record { at = 7443; length = 1 }) numbers (omega arith) ∙ ap (take 1) (drop-cons numbers 7443 0 h) ∙ ap (λ (a : ℕ). a ∷ []) one
 
 -- the machine at the start has no entries but that
 start-machine : (numbers register ds ps row : List ℕ) → length numbers ≡ elapsedAt + 3650 → getD numbers 7443 0 ≡ 1 →
     machineAt startProgress numbers register ds ps row ≡ machineOf emptyDraft register fresh ds ps row
-unfolding listIn
 start-machine numbers register ds ps row long one =
-    λ t. machineOf (record { pooled = false; elapsed = []; brought = brought noPool [] (one-start numbers long one t) [] [] [] [] [] }) register fresh ds ps row
+    let none : (at : ℕ) → listIn (record { at = at; length = 0 }) numbers ≡ [] = λ at. list-none at numbers in
+    λ t. machineOf (record {
+      pooled = false;
+      elapsed = none elapsedAt t;
+      brought = brought noPool (none 0 t) (one-start numbers long one t) (none 9 t) (none 134 t) (none 3784 t) (none elapsedAt t) (none 7434 t);
+    }) register fresh ds ps row
 
 pub start-limits : {p : Progress} (numbers : List ℕ) → p ≡ startProgress → length numbers ≡ elapsedAt + 3650 → Blank numbers → LayoutLimits (p .layout) numbers
 start-limits numbers e long blank = subst (λ (q : Progress). LayoutLimits (q .layout) numbers) (sym e) (empty-limits numbers long blank)

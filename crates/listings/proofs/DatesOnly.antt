@@ -56,6 +56,7 @@ use Rattle.listings.specs.Manners.{mannerTransition}
 use Rattle.listings.specs.DatesOnly.{HasZeros, OrderMeets, MeetsZeros, ZerosFrom, earlierCommandAt, commandSize, entersNone, DecksByDates}
 use Rattle.listings.proofs.Manners.{ordered, Along, listed, registered, entered-kept, goes-on}
 use Rattle.listings.proofs.OnePeriod.{One, one-after, one-entered}
+use Rattle.listings.proofs.Zeros.{by-bytes}
 
 -- ---- entries: how many there are, and how many an accepted sheet has
 
@@ -468,8 +469,10 @@ first-kept register = record { one = one-period .first; nameless = λ e. refl; w
 pub decks-by-dates : DecksByDates
 decks-by-dates =
     record {
-      listing = λ register deck z. listed commandAt datesOnlyManner deck _ (along deck) register (first-kept register, z);
-      register-left = λ register deck z. registered commandAt datesOnlyManner deck _ (along deck) register (first-kept register, z);
+      listing-of-zeros = λ register deck e. listed commandAt datesOnlyManner deck _ (along deck) register (first-kept register, by-bytes deck register e);
+      register-of-zeros = λ register deck e. registered commandAt datesOnlyManner deck _ (along deck) register (first-kept register, by-bytes deck register e);
       listing-without = λ register deck e. listed earlierCommandAt datesOnlyManner deck _ (along-without deck) register (first-kept register, dates-only .first, e);
       register-without = λ register deck e. registered earlierCommandAt datesOnlyManner deck _ (along-without deck) register (first-kept register, dates-only .first, e);
+      listing = λ register deck z. listed commandAt datesOnlyManner deck _ (along deck) register (first-kept register, z);
+      register-left = λ register deck z. registered commandAt datesOnlyManner deck _ (along deck) register (first-kept register, z);
     }

@@ -17,7 +17,7 @@ use Rattle.walk.specs.declared.Walk.{Walk}
 use Rattle.walk.specs.Calls.{Outcome, ForwardOutcome}
 use Rattle.walk.specs.Manners.{Manner, CallsAlike}
 use Rattle.machine.specs.Machine.{Machine, machineOn}
-use Rattle.machine.specs.Rooms.{lentRows, leftInRooms, leftInRow, countSaid, saidBeside}
+use Rattle.machine.specs.Rooms.{lentRows, leftInRooms, leftInRow, countInRow}
 use Rattle.machine.specs.Rooms.{openInRooms, backInRooms, valueInRooms, ratioInRooms, forwardInRow, distributionInRow}
 use Rattle.machine.specs.Transitions.{Transition, callTransition, forwardTransition, transitionOf}
 use Rattle.render.specs.Lines.{orderLine, deckLine}
@@ -48,7 +48,7 @@ ordered n (Delta j k) m Lent a l =
 ordered n (Forward i k) m Lent a l =
     let x = m .draft .brought in
     ap (λ (o : ForwardOutcome).
-    let p = leftInRow x (m .row) o in forwardTransition m (saidBeside (countSaid (p .answer) (p .row) (x .sheet .names) k) (p .row)))
+    forwardTransition m (countInRow x (m .row) (leftInRow x (m .row) o) k))
     (a .forward (m .register) (take (x .sheet .names + 1) (m .row)) i)
 
 -- What is kept along a run, from an offset on with so many commands at most: the same command is read, each order does what it does in the manner, and it is kept by each

@@ -19,15 +19,14 @@ use Rattle.entries.specs.Draft.{hasRoom, added}
 use Rattle.render.specs.Lines.{deckLine}
 use Rattle.figures.specs.declared.Answer.{Answer}
 use Rattle.figures.specs.declared.Answer.the-variants.{Refused, Done, Position, Worth, Ratio}
-use Rattle.walk.specs.Answers.{saidOf}
-use Rattle.walk.specs.CallLists.{State}
+use Rattle.walk.specs.Answers.{fresh, saidOf}
 use Rattle.walk.specs.RefusalOrders.{RefusalOrder}
 use Rattle.walk.specs.Accuracy.{EarlyRefusal}
 use Rattle.walk.specs.Power.{Shut, stateAfterEvents}
 use Rattle.walk.specs.OurEngine.{ours}
 use Rattle.walk.proofs.OurEngine.{ours-keeps}
 use Rattle.machine.specs.Machine.{Machine, machineOn}
-use Rattle.machine.specs.Rooms.{lentRows, openInRooms, backInRooms, valueInRooms, ratioInRooms, forwardInRow, countSaid, distributionInRow}
+use Rattle.machine.specs.Rooms.{lentRows, openInRooms, backInRooms, valueInRooms, ratioInRooms, forwardInRow, countSaid, countInRow, distributionInRow}
 use Rattle.machine.specs.Transitions.{transitionOf}
 use Rattle.listings.specs.Effects.{Effect, stop, goOn, withDraft, entryEffect, orderEffect, effectOf}
 use Rattle.listings.specs.RegisterFrom.{registerFrom}
@@ -110,14 +109,15 @@ onwards (suc n) deck at m = commands-keep n deck at m (λ next t. onwards n deck
 
 -- ---- what is said of a withdrawn number
 
-shut : (m : Machine) (y : ℕ) → Withdrawn (m .register) y → Shut ours (m .register) y
+-- a number that a register doesn't say unissued or live is refused by every call
+pub shut : (g : List ℕ) (y : ℕ) → ¬ (Unissued g y ⊎ Live g y) → Shut ours g y
 unfolding stateAfterEvents
-shut m y w = ours-keeps .power start [] .stays y readable
-  where
-    start : State
-    start = record { register = m .register; walk = m .walk; rows = m .rooms }
+shut g y n = ours-keeps .power (record { register = g; walk = fresh; rows = machineOn g .rooms }) [] .stays y n
 
-    readable : Unissued (m .register) y ⊎ Live (m .register) y → ⊥
+withdrawn-shut : (g : List ℕ) (y : ℕ) → Withdrawn g y → Shut ours g y
+withdrawn-shut g y w = shut g y readable
+  where
+    readable : Unissued g y ⊎ Live g y → ⊥
     readable (inl u) = w .not-unissued (u .byte)
     readable (inr l) = w .not-live (l .byte)
 
@@ -130,17 +130,15 @@ untold order (Position i) row n k e = e
 untold order (Worth d a w) row n k e = e
 untold order (Ratio z) row n k e = e
 
-hidden : (o : Order) (m : Machine) → Withdrawn (m .register) (broughtBy o m) → EarlyRefusal (refusalsOf o m) (transitionOf o m .said)
-unfolding broughtBy refusalsOf transitionOf openInRooms backInRooms valueInRooms ratioInRooms forwardInRow distributionInRow
-hidden (Issue y) m w = shut m y w .issue .0
-hidden (Withdraw y) m w = shut m y w .withdraw .0
-hidden Open m w = let x = m .draft .brought in shut m (x .number) w .opening x (m .walk) (lentRows x (m .rooms)) refl .0
-hidden (Back c) m w = let x = m .draft .brought in shut m (x .number) w .back x (m .walk) (lentRows x (m .rooms)) c refl .0
-hidden (Value j k) m w = let x = m .draft .brought in shut m (x .number) w .value x (m .walk) (lentRows x (m .rooms)) j k refl .0
-hidden (Delta j k) m w = let x = m .draft .brought in shut m (x .number) w .ratio x (m .walk) (lentRows x (m .rooms)) j k refl .0
-hidden (Forward i k) m w =
-    let x = m .draft .brought in
-    untold _ _ _ _ k (shut m (x .number) w .forward x (take (x .sheet .names + 1) (m .row)) i refl .0)
+pub hidden : (o : Order) (m : Machine) → Shut ours (m .register) (broughtBy o m) → EarlyRefusal (refusalsOf o m) (transitionOf o m .said)
+unfolding broughtBy refusalsOf transitionOf openInRooms backInRooms valueInRooms ratioInRooms forwardInRow countInRow distributionInRow
+hidden (Issue y) m s = s .issue .0
+hidden (Withdraw y) m s = s .withdraw .0
+hidden Open m s = let x = m .draft .brought in s .opening x (m .walk) (lentRows x (m .rooms)) refl .0
+hidden (Back c) m s = let x = m .draft .brought in s .back x (m .walk) (lentRows x (m .rooms)) c refl .0
+hidden (Value j k) m s = let x = m .draft .brought in s .value x (m .walk) (lentRows x (m .rooms)) j k refl .0
+hidden (Delta j k) m s = let x = m .draft .brought in s .ratio x (m .walk) (lentRows x (m .rooms)) j k refl .0
+hidden (Forward i k) m s = let x = m .draft .brought in untold _ _ _ _ k (s .forward x (take (x .sheet .names + 1) (m .row)) i refl .0)
 
 pub deck-withdrawals : DeckWithdrawals
 unfolding registerAfter
@@ -148,7 +146,7 @@ deck-withdrawals =
     record {
       whole = λ register deck. sized register deck (ltb 65536 (length deck));
       onwards = onwards;
-      hidden = hidden;
+      hidden = λ o m w. hidden o m (withdrawn-shut (m .register) (broughtBy o m) w);
     }
   where
     sized : (register deck : List ℕ) (b : Bool) →

@@ -3,6 +3,8 @@ pub mod ListingFrom
 pub mod RegisterFrom
 pub mod Listing
 pub mod Withdrawals
+pub mod Power
+pub mod Lending
 pub mod Manners
 pub mod OnePeriod
 pub mod DatesOnly

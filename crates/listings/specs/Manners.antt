@@ -12,7 +12,7 @@ use Rattle.commands.specs.declared.Order.the-variants.{Issue, Withdraw, Open, B
 use Rattle.commands.specs.Commands.{orderSize}
 use Rattle.walk.specs.Manners.{Manner, openBy, backBy, valueBy, ratioBy, forwardBy}
 use Rattle.machine.specs.Machine.{Machine, machineOn}
-use Rattle.machine.specs.Rooms.{lentRows, leftInRooms, leftInRow, countSaid, saidBeside}
+use Rattle.machine.specs.Rooms.{lentRows, leftInRooms, leftInRow, countInRow}
 use Rattle.machine.specs.Transitions.{Transition, registerTransition, callTransition, forwardTransition}
 use Rattle.render.specs.Lines.{orderLine, deckLine}
 use Rattle.listings.specs.Effects.{Effect, stop, goOn, entryEffect}
@@ -36,7 +36,7 @@ mannerTransition n (Delta j k) m =
 mannerTransition n (Forward i k) m =
     let x = m .draft .brought in
     let o = leftInRow x (m .row) (forwardBy n x (m .register) (take (x .sheet .names + 1) (m .row)) i) in
-    forwardTransition m (saidBeside (countSaid (o .answer) (o .row) (x .sheet .names) k) (o .row))
+    forwardTransition m (countInRow x (m .row) o k)
 
 -- A command by them. An entry makes no call.
 unfoldable pub mannerEffect : Manner → Command → ℕ → Machine → Effect

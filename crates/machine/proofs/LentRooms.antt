@@ -1,7 +1,7 @@
 -- Parts of a room, lent and come back.
 use Prim.Native.Nat.{ℕ, suc, _+_, _*_, _≤_, _<_, min}
 use mathlib.Core.Path.{_≡_, refl, sym, ap, _∙_}
-use mathlib.Core.Bool.{Bool, true, false}
+use mathlib.Core.Bool.{Bool, true, false, cond}
 use mathlib.Core.List.{List, [], _∷_, _++_}
 use native.Mathlib.Nat.{mul-le-mul}
 use native.Mathlib.Omega.{arith}
@@ -15,15 +15,20 @@ use types.Run.{OneOf}
 use denote.Enum.Declared.{tagOf}
 use Rattle.figures.proofs.Answer.{the-type}
 use Rattle.sheet.specs.Brought.{Brought}
+use Rattle.refusals.specs.declared.Found.{Found}
+use Rattle.refusals.specs.declared.Found.the-variants as Found
+use Rattle.refusals.specs.declared.Found.the-variants.{Fine}
+use Rattle.refusals.specs.Tests.{first}
 use Rattle.figures.specs.declared.Answer.{Answer}
 use Rattle.figures.specs.declared.Answer.the-variants.{Refused, Done, Position, Worth, Ratio}
 use Rattle.walk.specs.declared.Reply.{Reply}
 use Rattle.rows.specs.Rows.{Rows, rowsOf, rowLength}
 use Rattle.walk.specs.Answers.{Said, saidOf, accepted}
-use Rattle.walk.specs.Calls.{Outcome, ForwardOutcome, replied, forwardOutcome, forwardCall}
+use Rattle.walk.specs.Calls.{Outcome, ForwardOutcome, replied, forwardOutcome, forwardTests, orForwardOutcome, forwardCall}
 use Rattle.walk.specs.CallRules.{ForwardRule}
 use Rattle.walk.specs.OurEngine.{forwardResult}
-use Rattle.machine.specs.Rooms.{lentRows, leftInRooms, leftInRow, forwardInRow, countSaid, saidBeside, distributionInRow}
+use Rattle.walk.proofs.Judging.{refusal-some}
+use Rattle.machine.specs.Rooms.{lentRows, leftInRooms, leftInRow, forwardInRow, countSaid, saidBeside, countInRow, distributionInRow, offTreeSaid}
 
 -- ---- as many as are asked, or all
 
@@ -76,6 +81,10 @@ module _ (x : Brought) (ds ps : List ℕ) (k : ℕ) (k-is : k ≡ min (rowLength
 
 -- ---- the forward row
 
+chosen : (b : Bool) (l m : List ℕ) → (b ≡ false → l ≡ m) → l ≡ cond b l m
+chosen true l m e = refl
+chosen false l m e = e refl
+
 module _ (x : Brought) (register row row′ : List ℕ) (a : Answer) (i count k : ℕ) (k-is : k ≡ min (x .sheet .names + 1) 126) (long : length row ≡ 126)
     (fills : forwardOutcome a row′ ≡ forwardCall x register (take k row) i) where
   fills-in : forwardOutcome a (row′ ++ drop k row) ≡ forwardInRow x register row i
@@ -84,12 +93,14 @@ module _ (x : Brought) (register row row′ : List ℕ) (a : Answer) (i count k 
       (λ j. forwardOutcome a (row′ ++ drop-min (x .sheet .names + 1) 126 k row long k-is j))
       ∙ ap (leftInRow x row) (fills ∙ ap (λ (l : List ℕ). forwardCall x register l i) (take-min (x .sheet .names + 1) 126 k row long k-is))
 
-  pub distribution-left : {said : Said} → said ≡ countSaid a (row′ ++ drop k row) (x .sheet .names) count → saidBeside said (row′ ++ drop k row)
-      ≡ distributionInRow x register row i count
-  unfolding distributionInRow
-  distribution-left e =
-      ap (λ (s : Said). saidBeside s (row′ ++ drop k row)) e
-      ∙ ap (λ (o : ForwardOutcome). saidBeside (countSaid (o .answer) (o .row) (x .sheet .names) count) (o .row)) fills-in
+  -- what is said of a count that a tree may have; a refused call leaves its part, and so the row
+  pub distribution-left : {said : Said} → said ≡ countSaid a (row′ ++ drop k row) (x .sheet .names) count →
+      (accepted said ≡ false → row′ ≡ take k row) → saidBeside said (row′ ++ drop k row) ≡ distributionInRow x register row i count
+  unfolding distributionInRow countInRow
+  distribution-left {said} e kept =
+      ap (saidBeside said) (chosen (accepted said) (row′ ++ drop k row) row (λ f. ap (λ (l : List ℕ). l ++ drop k row) (kept f) ∙ take-append-drop k row))
+      ∙ ap (λ (s : Said). saidBeside s (cond (accepted s) (row′ ++ drop k row) row)) e
+      ∙ ap (λ (o : ForwardOutcome). countInRow x row o count) fills-in
 
   -- an accepted forward leaves a row of n + 1, so there are at most 125 names
   pub names-few : a ≡ Done → length row′ ≡ length (take k row) → ForwardRule x register (take k row) i (forwardResult (forwardOutcome a row′)) → x .sheet .names ≤ 125
@@ -115,3 +126,37 @@ said-other Done row n k t = absurd (⊎-elim (λ (z : _≡_ {A = ℕ} 1 0). omeg
 said-other (Position i) row n k t = refl
 said-other (Worth d p w) row n k t = refl
 said-other (Ratio z) row n k t = refl
+
+-- what it says of a count above the names, by what it is refused for
+off-said : (f : Found) (q row : List ℕ) (o : ForwardOutcome) (n k : ℕ) → o .answer ≡ Done → n < k →
+    offTreeSaid f ≡ countSaid (orForwardOutcome f q o .answer) row n k
+unfolding offTreeSaid orForwardOutcome countSaid
+off-said Fine q row o n k e h = said-off (o .answer) row n k e h
+off-said (Found.Refused r) q row o n k e h = refl
+
+off-refused : (f : Found) → accepted (offTreeSaid f) ≡ false
+unfolding offTreeSaid
+off-refused Fine = refl
+off-refused (Found.Refused r) = refusal-some r
+
+-- there the row is only read
+module _ (x : Brought) (register row : List ℕ) (i count k : ℕ) (k-is : k ≡ min (x .sheet .names + 1) 126) (long : length row ≡ 126)
+    (above : x .sheet .names < count) where
+  abbrev lent : List ℕ
+  lent = take (x .sheet .names + 1) row
+
+  as-told : (filled : List ℕ) → offTreeSaid (first (forwardTests x register lent i)) ≡ countSaid (forwardCall x register lent i .answer) filled (x .sheet .names) count
+  unfolding forwardCall
+  as-told filled = off-said (first (forwardTests x register lent i)) lent filled _ (x .sheet .names) count refl above
+
+  pub distribution-off : {said : Said} → said ≡ offTreeSaid (first (forwardTests x register (take k row) i)) →
+      saidBeside said row ≡ distributionInRow x register row i count
+  unfolding distributionInRow countInRow forwardInRow
+  distribution-off {said} e =
+      let o : ForwardOutcome = leftInRow x row (forwardCall x register lent i) in
+      let there : Said = countSaid (o .answer) (o .row) (x .sheet .names) count in
+      let told : offTreeSaid (first (forwardTests x register lent i)) ≡ there = as-told (o .row) in
+      let same : said ≡ offTreeSaid (first (forwardTests x register lent i)) =
+      e ∙ ap (λ (l : List ℕ). offTreeSaid (first (forwardTests x register l i))) (take-min (x .sheet .names + 1) 126 k row long k-is) in
+      let refused : accepted there ≡ false = ap accepted (sym told) ∙ off-refused (first (forwardTests x register lent i)) in
+      ap (λ (s : Said). saidBeside s row) (same ∙ told) ∙ ap (λ (b : Bool). saidBeside there (cond b (o .row) row)) (sym refused)

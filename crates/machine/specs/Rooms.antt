@@ -1,17 +1,20 @@
 -- 'The program lends rows of the right length': a call is lent the first numbers of each room, and what it leaves takes their place.
 -- A room that has fewer is lent whole; its pool is then refused. (document 01, 'Deck and printing program')
 use Prim.Native.Nat.{ℕ, _+_}
-use mathlib.Core.Bool.{true, false}
+use mathlib.Core.Bool.{true, false, cond}
 use mathlib.Core.List.{List, [], _∷_, _++_}
 use lib.Dec.{ltb}
 use lib.IntN.{pos}
 use lib.ListN.{getD, take, drop}
 use Rattle.sheet.specs.Brought.{Brought}
 use Rattle.rows.specs.Rows.{Rows, rowLength}
+use Rattle.refusals.specs.declared.Found.{Found}
+use Rattle.refusals.specs.declared.Found.the-variants as Found
+use Rattle.refusals.specs.declared.Found.the-variants.{Fine}
 use Rattle.figures.specs.declared.Answer.{Answer}
 use Rattle.figures.specs.declared.Answer.the-variants.{Refused, Done, Position, Worth, Ratio}
 use Rattle.walk.specs.declared.Walk.{Walk}
-use Rattle.walk.specs.Answers.{Said, saidOf}
+use Rattle.walk.specs.Answers.{Said, saidOf, accepted}
 use Rattle.walk.specs.CallRules.{ForwardResult}
 use Rattle.walk.specs.Calls.{Outcome, ForwardOutcome, openCall, backCall, valueCall, ratioCall, forwardCall}
 
@@ -61,7 +64,16 @@ countSaid (Ratio z) row n k = saidOf (Ratio z)
 abbrev pub saidBeside : Said → List ℕ → ForwardResult
 saidBeside said row = record { said = said; row = row }
 
--- After 14 the row stays as the call filled it. That can't be seen: the next forward starts afresh, and nothing else reads the row.
+-- What forward says of a count, and the row that it leaves: refused, by the call itself or with 14, the row as it was.
+unfoldable pub countInRow : Brought → List ℕ → ForwardOutcome → ℕ → ForwardResult
+countInRow x row o k =
+    let said = countSaid (o .answer) (o .row) (x .sheet .names) k in
+    saidBeside said (cond (accepted said) (o .row) row)
+
 unfoldable pub distributionInRow : Brought → List ℕ → List ℕ → ℕ → ℕ → ForwardResult
-distributionInRow x register row i k =
-    let o = forwardInRow x register row i in saidBeside (countSaid (o .answer) (o .row) (x .sheet .names) k) (o .row)
+distributionInRow x register row i k = countInRow x row (forwardInRow x register row i) k
+
+-- The same of a count above n, by what the call is refused for: the row is only read.
+unfoldable pub offTreeSaid : Found → Said
+offTreeSaid Fine = record { number = 14; values = [] }
+offTreeSaid (Found.Refused f) = saidOf (Refused f)

@@ -1,11 +1,13 @@
 -- Commands 06 to 0C: what each answers, and the machine after it (document 01, 'Deck and printing program').
 use Prim.Native.Nat.{ℕ}
+use mathlib.Core.Path.{_≡_}
+use mathlib.Core.Bool.{false}
 use mathlib.Core.List.{List}
 use Rattle.commands.specs.declared.Order.{Order}
 use Rattle.commands.specs.declared.Order.the-variants.{Issue, Withdraw, Open, Back, Value, Delta, Forward}
 use Rattle.register.specs.declared.answers.WriteAnswer as Register
 use Rattle.register.specs.Register.{issueAnswer, issueLeaves, withdrawAnswer, withdrawLeaves}
-use Rattle.walk.specs.Answers.{Said, saidOf, saidBy}
+use Rattle.walk.specs.Answers.{Said, saidOf, saidBy, accepted}
 use Rattle.walk.specs.CallRules.{ForwardResult}
 use Rattle.walk.specs.Calls.{Outcome}
 use Rattle.answers.specs.declared.OrderAnswer.{OrderAnswer}
@@ -54,3 +56,7 @@ transitionOf (Back c) m = callTransition m (backInRooms (m .draft .brought) (m .
 transitionOf (Value j k) m = callTransition m (valueInRooms (m .draft .brought) (m .register) (m .walk) (m .rooms) j k)
 transitionOf (Delta j k) m = callTransition m (ratioInRooms (m .draft .brought) (m .register) (m .walk) (m .rooms) j k)
 transitionOf (Forward i k) m = forwardTransition m (distributionInRow (m .draft .brought) (m .register) (m .row) i k)
+
+-- 'All refusals change nothing lent': an order that is refused leaves the machine. Proved in proofs/Refused.antt.
+abbrev pub RefusedLeaves : Type 0
+RefusedLeaves = (o : Order) (m : Machine) → accepted (transitionOf o m .said) ≡ false → transitionOf o m .next ≡ m

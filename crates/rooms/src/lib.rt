@@ -15,6 +15,7 @@ ghost use Rattle.machine.specs.Rooms.{
   ratioInRooms,
   saidBeside,
   distributionInRow,
+  offTreeSaid,
 };
 use answers::OrderAnswer;
 use sheet::COUNTS_MOST;
@@ -22,6 +23,7 @@ use sheet::NAMES_MOST;
 use sheet::Pool;
 use sheet::ROW_MOST;
 use sheet::Sheet;
+use walk::Found;
 use walk::Reply;
 use walk::Walk;
 
@@ -158,7 +160,17 @@ pub fn hedge_ratio(
     )
 }
 
-// Forward, and what it says of a count. 14 comes after the call's own refusals.
+// What forward says of a count above the names, by what it is refused for: 14 where that is nothing.
+fn off_tree(found: Found) -> OrderAnswer
+    ensures { λ r. ⌜ answerSaid r ≡ offTreeSaid found ⌝ }
+{
+    match found {
+        Found::Refused(refusal) => answers::of_walk(walk::Answer::Refused(refusal)),
+        Found::Fine => OrderAnswer::Refused(14),
+    }
+}
+
+// Forward, and what it says of a count. 14 comes after the call's own refusals, and leaves the row as they do: it is judged on what is only read.
 pub fn forward(
     sheet: Sheet,
     numbers: &[u64],
@@ -173,11 +185,12 @@ pub fn forward(
 {
     let pool = sheet.pool;
     let size = forward_size(pool);
+    if pool.names < count {
+        let found = walk::judge_forward(sheet, numbers, register, &row[..size], steps);
+        return off_tree(found);
+    }
     let answer = walk::forward(sheet, numbers, register, &mut row[..size], steps);
     if let walk::Answer::Done = answer {
-        if pool.names < count {
-            return OrderAnswer::Refused(14);
-        }
         return OrderAnswer::Probability(row[count]);
     }
     answers::of_walk(answer)

@@ -1,4 +1,5 @@
 pub mod Parts
+pub mod Spans
 pub mod Dates
 pub mod Limits
 pub mod Periods

@@ -54,7 +54,7 @@ pub struct Sheet {
     pub coupons: Span,
 }
 
-// The list of a span. One that reaches past the end is shorter than it says.
+// The list of a span. One that reaches past the end has none: it is empty, which no list of a sheet may be (2).
 pub fn part<'a>(span: Span, numbers: &'a [u64]) -> &'a [u64]
     ensures { λ r. ⌜ now r ≡ listIn span (now (numbers .entry)) ⌝ }
 {
@@ -65,7 +65,7 @@ pub fn part<'a>(span: Span, numbers: &'a [u64]) -> &'a [u64]
     }
     let length = span.length;
     if size - at < length {
-        return &numbers[at..size];
+        return &numbers[at..at];
     }
     let end = at + length;
     &numbers[at..end]

@@ -169,28 +169,32 @@ module _ (x : Brought) (g : List ℕ) (w : Walk) (l : Lent.Rows) (e : first (twe
 
 -- ---- forward
 
-module _ (x : Brought) (g q : List ℕ) (lent : Bool) (same : poolBad (x .sheet) ≡ false → lent ≡ rowBad x g q) (i : ℕ) where
-  pub forward-not : {f : Refusal} → first (tenTests x g lent []) ≡ Refused f → notForward f q ≡ forwardCall x g q i
-  unfolding forwardTests
-  forward-not e = sym (forward-refused x g q i _ (ten-refused x g (rowBad x g q) _ (sym (ten-alike x g lent (rowBad x g q) [] same) ∙ e)))
-
-  module _ (e : first (tenTests x g lent []) ≡ Fine) where
-    ten-on : first (forwardTests x g q i) ≡ first ((ltb (x .sheet .steps) i, Refusal.OutOfSteps) ∷ [])
+module _ (x : Brought) (g q : List ℕ) (i : ℕ) where
+  module _ (lent : Bool) (same : poolBad (x .sheet) ≡ false → lent ≡ rowBad x g q) where
+    pub judged-not : {f : Refusal} → first (tenTests x g lent []) ≡ Refused f → Refused f ≡ first (forwardTests x g q i)
     unfolding forwardTests
-    ten-on = ten-fine x g (rowBad x g q) _ (sym (ten-alike x g lent (rowBad x g q) [] same) ∙ e)
+    judged-not e = sym (ten-refused x g (rowBad x g q) _ (sym (ten-alike x g lent (rowBad x g q) [] same) ∙ e))
 
-    pub forward-out : x .sheet .steps < i → notForward Refusal.OutOfSteps q ≡ forwardCall x g q i
-    forward-out h = sym (forward-refused x g q i _ (ten-on ∙ first-met _ _ _ (lt-ltb _ _ h)))
+    module _ (e : first (tenTests x g lent []) ≡ Fine) where
+      ten-on : first (forwardTests x g q i) ≡ first ((ltb (x .sheet .steps) i, Refusal.OutOfSteps) ∷ [])
+      unfolding forwardTests
+      ten-on = ten-fine x g (rowBad x g q) _ (sym (ten-alike x g lent (rowBad x g q) [] same) ∙ e)
 
-    module _ (h : i ≤ x .sheet .steps) where
-      all-passed : first (forwardTests x g q i) ≡ Fine
-      all-passed = ten-on ∙ first-passed _ _ _ (le-ltb _ _ h) ∙ first-none
+      pub judged-out : x .sheet .steps < i → Refused Refusal.OutOfSteps ≡ first (forwardTests x g q i)
+      judged-out h = sym (ten-on ∙ first-met _ _ _ (lt-ltb _ _ h))
 
-      pub forwarding : Forwarding x g q i
-      forwarding = forward-holds x g q i .0 (stands-fine _ _ (forward-stands x g q i) .0 all-passed)
+      pub judged-fine : i ≤ x .sheet .steps → Fine ≡ first (forwardTests x g q i)
+      judged-fine h = sym (ten-on ∙ first-passed _ _ _ (le-ltb _ _ h) ∙ first-none)
 
-      pub forward-done : (row : List ℕ) → row ≡ distributionRow (x .sheet) i → record { answer = Answer.Done; row = row } ≡ forwardCall x g q i
-      forward-done row r = (λ k. record { answer = Answer.Done; row = r k }) ∙ sym (forward-fine x g q i all-passed)
+  pub forward-not : {f : Refusal} → first (forwardTests x g q i) ≡ Refused f → notForward f q ≡ forwardCall x g q i
+  forward-not e = sym (forward-refused x g q i _ e)
+
+  module _ (e : first (forwardTests x g q i) ≡ Fine) where
+    pub forwarding : Forwarding x g q i
+    forwarding = forward-holds x g q i .0 (stands-fine _ _ (forward-stands x g q i) .0 e)
+
+    pub forward-done : (row : List ℕ) → row ≡ distributionRow (x .sheet) i → record { answer = Answer.Done; row = row } ≡ forwardCall x g q i
+    forward-done row r = (λ k. record { answer = Answer.Done; row = r k }) ∙ sym (forward-fine x g q i e)
 
 -- ---- how large a jump is
 

@@ -17,3 +17,4 @@ pub mod Contracts
 pub mod Manners
 pub mod OnePeriod
 pub mod DatesOnly
+pub mod Spans

@@ -14,3 +14,4 @@ pub mod Power
 pub mod Promise
 pub mod Risk
 pub mod Contracts
+pub mod Spans

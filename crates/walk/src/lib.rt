@@ -7,10 +7,11 @@ ghost use Rattle.walk.specs.CallRules.{RatioRule, ForwardRule};
 ghost use Rattle.walk.specs.OurEngine.{walkResult, forwardResult};
 ghost use Rattle.walk.specs.Contracts.{Promised};
 ghost use Rattle.rows.specs.Rows.{rowsOf};
-ghost use Rattle.walk.specs.Calls.{replied, forwardOutcome, openCall, backCall, valueCall, ratioCall, forwardCall};
+ghost use Rattle.refusals.specs.Tests.{first};
+ghost use Rattle.walk.specs.Calls.{replied, forwardOutcome, forwardTests, openCall, backCall, valueCall, ratioCall, forwardCall};
 pub use figures::Answer;
 use figures::replies;
-use refusals::Found;
+pub use refusals::Found;
 pub use refusals::Refusal;
 pub use sheet::Pool;
 pub use sheet::Sheet;
@@ -232,6 +233,28 @@ impl Walk {
     }
 }
 
+// What forward is refused for: 1 to 10, then 13. It may only read the row.
+pub fn judge_forward(
+    sheet: Sheet,
+    numbers: &[u64],
+    register: &[u8],
+    row: &[u64],
+    steps: usize,
+) -> Found
+    ensures { λ r. ⌜ r
+        ≡ first (forwardTests (broughtIn sheet (now (numbers .entry))) (now (register .entry)) (now (row .entry)) steps) ⌝ }
+{
+    let lent = admission::row_differs(sheet.pool, register, row);
+    let found = admission::to_ten(sheet, numbers, register, lent);
+    if let Found::Refused(f) = found {
+        return Found::Refused(f);
+    }
+    if sheet.pool.steps < steps {
+        return Found::Refused(Refusal::OutOfSteps);
+    }
+    Found::Fine
+}
+
 // The distribution of the default count after so many steps, from no default.
 pub fn forward(
     sheet: Sheet,
@@ -245,13 +268,9 @@ pub fn forward(
     ensures rule { λ r. ⌜ ForwardRule (broughtIn sheet (now (numbers .entry))) (now (register .entry))
         (now (row .entry)) steps (forwardResult (forwardOutcome r (now (row .exit)))) ⌝ }
 {
-    let lent = admission::row_differs(sheet.pool, register, row);
-    let found = admission::to_ten(sheet, numbers, register, lent);
+    let found = judge_forward(sheet, numbers, register, row, steps);
     if let Found::Refused(f) = found {
         return Answer::Refused(f);
-    }
-    if sheet.pool.steps < steps {
-        return Answer::Refused(Refusal::OutOfSteps);
     }
     let starts = sheet::part(sheet.starts, numbers);
     let hazards = sheet::part(sheet.hazards, numbers);

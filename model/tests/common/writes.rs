@@ -9,7 +9,9 @@ pub struct Write {
     pub number: usize,
     pub old: u8,
     pub new: u8,
-    /// The bytes of the listing up to the end of its line.
+    /// The bytes of the listing up to the start of its line.
+    pub before: usize,
+    /// And up to its end.
     pub shown: usize,
 }
 
@@ -25,6 +27,7 @@ pub fn told(deck: &[u8], listing: &str) -> Vec<Write> {
             continue;
         }
         let Some(line) = lines.next() else { break };
+        let before = shown;
         shown += line.len();
         let (old, new) = match line {
             "issue 0\n" => (UNISSUED, LIVE),
@@ -36,6 +39,7 @@ pub fn told(deck: &[u8], listing: &str) -> Vec<Write> {
             number,
             old,
             new,
+            before,
             shown,
         });
     }

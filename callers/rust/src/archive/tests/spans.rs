@@ -1,6 +1,7 @@
-//! The lists of a sheet may stand anywhere among its numbers: a span means the
-//! list that is left from its start, of its length at most. So each call must
-//! answer as it does for a plain sheet of the lists that the spans mean.
+//! The lists of a sheet may stand anywhere among its numbers: a span means as
+//! many numbers as it states, from its start on. So each call must answer as it
+//! does for a plain sheet of these lists, and refuse a span that states more
+//! numbers than there are, whatever stands where it starts.
 
 use super::super::*;
 use crate::sheet::Lists;
@@ -152,25 +153,27 @@ fn spanned(numbers: &[u64], spans: [Span; 7]) -> Sheet {
     }
 }
 
-/// The list that a span means.
-fn meant(numbers: &[u64], span: Span) -> &[u64] {
-    let left = numbers.get(span.at..).unwrap_or(&[]);
-    left.get(..span.length).unwrap_or(left)
+/// The list that a span means, if the numbers reach that far.
+fn reached(numbers: &[u64], span: Span) -> Option<&[u64]> {
+    numbers.get(span.at..span.at.checked_add(span.length)?)
 }
 
-/// How many calls were accepted, refused for a length, and refused otherwise.
+/// How many calls were accepted, refused for a span that reaches past the
+/// numbers, for another length, and otherwise.
 #[derive(Default)]
 struct Tally {
     accepted: usize,
+    past: usize,
     other_length: usize,
     other: usize,
 }
 
 /// Each call on a sheet of these spans, beside the plain sheet of the lists
-/// that they mean.
+/// that they mean. An empty one stands for a list that is not there.
 fn assert_meaning(tally: &mut Tally, before: &Desk, numbers: &[u64], spans: [Span; 7]) {
     let sheet = spanned(numbers, spans);
-    let lists = spans.map(|span| meant(numbers, span));
+    let lists = spans.map(|span| reached(numbers, span).unwrap_or(&[]));
+    let past = spans.iter().any(|&span| reached(numbers, span).is_none());
     let [attachments, starts, hazards, discounts, accruals, elapsed, coupons] = lists;
     let lists_meant = Lists {
         attachments,
@@ -188,10 +191,11 @@ fn assert_meaning(tally: &mut Tally, before: &Desk, numbers: &[u64], spans: [Spa
         let (expected, expected_after) = outcome(call, before, &plain);
         assert_eq!(answer, expected, "{name}, {spans:?}");
         assert_eq!(after, expected_after, "{name}, {spans:?}");
-        assert_eq!(answer == Err(Refusal::Length), !whole, "{name}, {spans:?}");
+        assert_eq!(answer == Err(Refusal::Length), past || !whole, "{name}, {spans:?}");
         assert!(answer.is_ok() || after == *before, "{name}, {spans:?}");
         match answer {
             Ok(_) => tally.accepted += 1,
+            Err(Refusal::Length) if past => tally.past += 1,
             Err(Refusal::Length) => tally.other_length += 1,
             Err(_) => tally.other += 1,
         }
@@ -227,7 +231,7 @@ fn lists_in_any_order_with_gaps() {
         let mut numbers = Vec::new();
         let mut moved = spans(&plain.layout);
         for (gap, list) in order.into_iter().enumerate() {
-            let own = meant(&plain.numbers, moved[list]);
+            let own = reached(&plain.numbers, moved[list]).unwrap();
             numbers.extend(vec![u64::MAX; gap]);
             moved[list].at = numbers.len();
             numbers.extend(own);
@@ -274,6 +278,7 @@ fn one_span_anywhere() {
     }
     // A list may share its numbers with another, as far as its limits go.
     assert!(tally.accepted > 100, "{}", tally.accepted);
+    assert!(tally.past > 9_000, "{}", tally.past);
     assert!(tally.other_length > 9_000, "{}", tally.other_length);
     assert!(tally.other > 100, "{}", tally.other);
 }
@@ -282,10 +287,10 @@ fn one_span_anywhere() {
 fn oddly(way: usize, own: Span, end: usize) -> Span {
     let (at, length) = match way {
         0 => (own.at, own.length),
-        1 => (end - own.length, usize::MAX),
+        1 => (end - own.length, own.length),
         2 => (own.at + 1, own.length),
         3 => (end + 1 - own.length, own.length),
-        _ => (usize::MAX - 1, own.at + own.length + 2),
+        _ => (end - own.length, usize::MAX),
     };
     Span { at, length }
 }
@@ -305,6 +310,6 @@ fn seven_odd_spans_at_once() {
         assert_meaning(&mut tally, &before, &plain.numbers, odd);
     }
     assert!(tally.accepted > 50, "{}", tally.accepted);
-    assert!(tally.other_length > 10_000, "{}", tally.other_length);
+    assert!(tally.past > 10_000, "{}", tally.past);
     assert!(tally.other > 50, "{}", tally.other);
 }
