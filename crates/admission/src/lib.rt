@@ -1,4 +1,7 @@
 // Whether a call is admitted: the checks 1 to 12 in order, for any sheet, numbers, register, walk and rows.
+
+#![tactic(auto)]
+
 ghost use Rattle.std.specs.Prelude.{◌≡◌, false, []};
 ghost use Rattle.sheet.specs.Brought.{without_lists};
 ghost use Rattle.sheet.specs.Spans.{brought_in};

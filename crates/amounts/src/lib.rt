@@ -1,4 +1,7 @@
 // Numbers of more than 64 bits (T-09), in two: billions and units.
+
+#![tactic(auto)]
+
 ghost use Rattle.std.specs.Prelude.{◌≡◌, ◌+◌, ◌≤◌, true, false, ltb, ◌+ℤ◌, length};
 ghost use Rattle.lines.specs.Text.{Wrote, decimal, signed, field};
 ghost use Rattle.hedges.specs.Hedges.{with_sign};

@@ -1,4 +1,7 @@
 // What an order of a deck answers: refusals by document 01's numbers.
+
+#![tactic(auto)]
+
 ghost use Rattle.std.specs.Prelude.{◌≡◌};
 ghost use Rattle.walk.specs.Answers.{said_of, said_by};
 ghost use Rattle.answers.specs.OrderAnswers.{answer_said};

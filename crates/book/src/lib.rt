@@ -1,4 +1,7 @@
 // One figure for a whole book (T-09): the exact totals of nominal times W, in one line of text.
+
+#![tactic(auto)]
+
 ghost use Rattle.std.specs.Prelude.{◌≡◌, ◌≤◌, length};
 ghost use Rattle.lines.specs.Text.{Wrote};
 ghost use Rattle.amounts.specs.Amounts.{figure_of, Proper};

@@ -1,4 +1,7 @@
 // The arithmetic layer: rounding, losses, recoveries and payments. It knows no walk and no register.
+
+#![tactic(auto)]
+
 ghost use Rattle.std.specs.Prelude.{◌≡◌, ◌+◌, ◌≤◌, ◌<◌, ◌*◌};
 ghost use Rattle.cash.specs.Units.{B};
 ghost use Rattle.cash.specs.Losses.{

@@ -1,4 +1,7 @@
 // The search for an entry of a walk's rows over its ceiling.
+
+#![tactic(auto)]
+
 ghost use Rattle.std.specs.Prelude.{◌≡◌, ◌||◌, suc, ◌+◌, ◌-◌, ◌*◌, ◌≤◌, [], length, drop, ltb};
 ghost use Rattle.sheet.specs.Limits.{TranchesWithin, TermsWithin};
 ghost use Rattle.sheet.specs.Spans.{terms_in};

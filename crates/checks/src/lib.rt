@@ -1,4 +1,7 @@
 // Sheets as they are brought, and the refusals 1 to 8, 21 and 25 that look at nothing else.
+
+#![tactic(auto)]
+
 ghost use Rattle.std.specs.Prelude.{◌≡◌, []};
 ghost use Rattle.sheet.specs.Spans.{brought_in, terms_in};
 ghost use Rattle.sheet.specs.Limits.{PoolInside, ListsFit};

@@ -1,4 +1,7 @@
 // The commands of a deck (document 01, 'Deck and printing program'): what stands at an offset of its bytes.
+
+#![tactic(auto)]
+
 ghost use Rattle.std.specs.Prelude.{◌≡◌, ◌+◌, ◌≤◌, ◌<◌, ◌^◌, length};
 ghost use Rattle.commands.specs.Commands.{low_first, operands, decoded, is_command, command_at, entry_size, order_size};
 

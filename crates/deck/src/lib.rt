@@ -1,4 +1,7 @@
 // A whole deck: its commands are run one after the other, and what they print is written.
+
+#![tactic(auto)]
+
 ghost use Rattle.std.specs.Prelude.{◌≡◌};
 ghost use Rattle.listings.specs.Withdrawals.{KeepsWithdrawn};
 ghost use Rattle.deck.specs.Printing.{room as roomOf, printout, printing, printing_on, register_left};

@@ -1,4 +1,7 @@
 // The table of what a default pays of the premium earned up to it, by tranche and the count before it.
+
+#![tactic(auto)]
+
 ghost use Rattle.std.specs.Prelude.{◌≡◌, suc, ◌*◌, ◌≤◌, length};
 ghost use Rattle.cash.specs.Units.{B};
 ghost use Rattle.rows.specs.Tables.{tab, grid};

@@ -1,4 +1,7 @@
 // The sheet of a deck, as commands 01 to 05 and 0D enter it: figures by value, and all of its lists in one lent list of numbers.
+
+#![tactic(auto)]
+
 ghost use Rattle.std.specs.Prelude.{◌≡◌, true, List, ℕ, ◌+◌, ◌<◌, length};
 ghost use Rattle.entries.specs.Draft.{has_room, added};
 ghost use Rattle.entries.specs.Layouts.{brought_span, empty_layout, draft_in, LayoutLimits, Leaves, longer, stored};

@@ -1,4 +1,7 @@
 // One command executed: a refusal, an entry or an order, by what stands at an offset of the deck.
+
+#![tactic(auto)]
+
 ghost use Rattle.std.specs.Prelude.{◌≡◌, true, false, List, ℕ, ◌+◌, ◌^◌, ◌≤◌, ◌<◌, length};
 ghost use Rattle.commands.specs.Commands.{command_at};
 ghost use Rattle.entries.specs.Layouts.{LayoutLimits};

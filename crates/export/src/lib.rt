@@ -1,5 +1,8 @@
 // The calls for programs in C and Rust. Each answers 0 or the number of a refusal, as document 01 or a request has it, with the values as numbers.
 // A slice is a pointer and a length. No call asks anything of its caller but that slices are what they say.
+
+#![tactic(auto)]
+
 ghost use Rattle.std.specs.Prelude.{◌≡◌, ◌<◌, length, get_or};
 ghost use Rattle.deck.specs.declared.Ran.TheVariants.{NoRoom};
 ghost use Rattle.deck.specs.Printing.{room, printing, printing_on, register_left};

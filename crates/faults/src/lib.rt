@@ -1,4 +1,7 @@
 // The single checks of a sheet, each a yes or no.
+
+#![tactic(auto)]
+
 ghost use Rattle.std.specs.Prelude.{◌≡◌, [], ◌∷◌, ◌+◌, ◌≤◌, length, get_or, drop, ltb};
 ghost use Rattle.sheet.specs.Terms.{bare, terms_of};
 ghost use Rattle.sheet.specs.Dates.{next_accrual};

@@ -1,4 +1,7 @@
 // What accepted calls write and read of the rows: zeros, a node, and its jump; and what calls answer.
+
+#![tactic(auto)]
+
 ghost use Rattle.std.specs.Prelude.{◌≡◌, suc, length};
 ghost use Rattle.sheet.specs.Limits.{TranchesWithin};
 ghost use Rattle.sheet.specs.Spans.{brought_in, terms_in};

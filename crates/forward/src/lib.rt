@@ -1,4 +1,7 @@
 // The distribution of the default count, forward in time.
+
+#![tactic(auto)]
+
 ghost use Rattle.std.specs.Prelude.{◌≡◌, ℕ, ◌+◌, ◌*◌, ◌≤◌, ◌<◌, length, get_or};
 ghost use Rattle.cash.specs.Units.{B};
 ghost use Rattle.tree.specs.Forward.{same};

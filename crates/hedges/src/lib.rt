@@ -1,4 +1,7 @@
 // The arithmetic layer where numbers have a sign: net values, jumps and the hedge ratio. It knows no walk and no register.
+
+#![tactic(auto)]
+
 ghost use Rattle.std.specs.Prelude.{◌≡◌, ◌≤◌, ◌*◌, nat_abs};
 ghost use Rattle.cash.specs.Units.{B};
 ghost use Rattle.hedges.specs.Hedges.{

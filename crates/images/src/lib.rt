@@ -1,4 +1,7 @@
 // Four bytes of two decimal digits each, the most significant first: what they say, and how a coupon is written as such. (T-14)
+
+#![tactic(auto)]
+
 ghost use Rattle.std.specs.Prelude.{◌≡◌, ◌≤◌, ◌<◌, length};
 ghost use Rattle.images.specs.Images.{two_digits, packed_value, above_nine, digits_bad, digit_pair, image_of};
 

@@ -1,4 +1,7 @@
 // The commands of a deck, one after the other.
+
+#![tactic(auto)]
+
 ghost use Rattle.std.specs.Prelude.{◌≡◌, ◌+◌, ◌*◌, ◌≤◌, length, get_or};
 ghost use Rattle.lines.specs.Text.{Wrote};
 ghost use Rattle.walk.specs.Answers.{fresh};

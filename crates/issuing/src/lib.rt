@@ -1,4 +1,7 @@
 // Issue and withdraw: judged on a register that is only read, then one byte stored.
+
+#![tactic(auto)]
+
 ghost use Rattle.std.specs.Prelude.{◌≡◌, ◌<◌, length, set};
 ghost use Rattle.register.specs.Register.{number_of, issue_answer, issue_leaves, withdraw_answer, withdraw_leaves};
 ghost use Rattle.register.specs.Rules.{IssueEffect, WithdrawEffect};

@@ -1,5 +1,8 @@
 // Text of a listing (document 01, 'Deck and printing program'), written into a lent buffer from a place on.
 // Each function answers the place after what it wrote.
+
+#![tactic(auto)]
+
 ghost use Rattle.std.specs.Prelude.{◌+◌, ◌≤◌, pos, [], ◌∷◌, length};
 ghost use Rattle.lines.specs.Text.{Wrote, decimal, signed, field};
 

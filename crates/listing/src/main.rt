@@ -1,4 +1,7 @@
 // Reads a deck from standard input and prints its listing. A program has no status to end with, so what goes wrong is told on standard error.
+
+#![tactic(auto)]
+
 ghost use Rattle.std.specs.Prelude.{◌≡◌, ◌≤◌, length};
 
 use deck::Ran;

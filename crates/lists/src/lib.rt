@@ -1,4 +1,7 @@
 // The checks of a list of numbers, each a yes or no, and its sum. Each loop is a function of its own.
+
+#![tactic(auto)]
+
 ghost use Rattle.std.specs.Prelude.{◌≡◌, false, ℕ, suc, pred, ◌+◌, ◌≤◌, ◌<◌, length, get_or, ltb, leb};
 ghost use Rattle.cash.specs.Units.{B};
 ghost use Rattle.sheet.specs.Terms.{sum_of};

@@ -1,4 +1,7 @@
 // Commands 06 to 0C.
+
+#![tactic(auto)]
+
 ghost use Rattle.std.specs.Prelude.{◌≡◌, length};
 ghost use Rattle.register.specs.Register.{issue_answer, issue_leaves, withdraw_answer, withdraw_leaves};
 ghost use Rattle.sheet.specs.Spans.{brought_in};

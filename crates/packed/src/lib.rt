@@ -1,4 +1,7 @@
 // Coupons in packed decimal, as the ledger sends them: four bytes of two decimal digits each, the most significant first. (T-14)
+
+#![tactic(auto)]
+
 ghost use Rattle.std.specs.Prelude.{◌≡◌};
 ghost use Rattle.packed.specs.Answers.{reading_number, coupon_in, writing_number, read_answer, write_answer, write_leaves};
 ghost use Rattle.packed.specs.Promise.{ReadRule, WriteRule, read_by, written_by};

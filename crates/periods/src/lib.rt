@@ -1,4 +1,7 @@
 // Which hazards a step goes by: those of the period that holds it.
+
+#![tactic(auto)]
+
 ghost use Rattle.std.specs.Prelude.{◌≡◌, ◌*◌, ◌≤◌, length};
 ghost use Rattle.sheet.specs.Periods.{begun, period_of};
 

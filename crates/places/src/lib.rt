@@ -1,4 +1,7 @@
 // Turns among walks (T-11), over parallel number slices: the steps left of each walk, and a lent list of places.
+
+#![tactic(auto)]
+
 ghost use Rattle.std.specs.Prelude.{◌≡◌, true, ◌<◌, length};
 ghost use Rattle.places.specs.Places.{next_place, chosen, any_over, taken, served, served_first, shown_of, stored_of};
 

@@ -1,4 +1,7 @@
 // Every refusal of a call, with its number; what a list of checks finds.
+
+#![tactic(auto)]
+
 ghost use Rattle.std.specs.Prelude.{◌≡◌};
 ghost use Rattle.refusals.specs.Refusals.{refusal_number};
 

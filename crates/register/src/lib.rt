@@ -1,4 +1,7 @@
 // The register of sheet numbers: 256 lent bytes, one a number. FF is unissued, A5 live, all else withdrawn.
+
+#![tactic(auto)]
+
 pub mod answers;
 
 ghost use Rattle.std.specs.Prelude.{◌≡◌};

@@ -1,4 +1,7 @@
 // The lines of a listing, written into a lent buffer from a place on. Each function answers the place after what it wrote.
+
+#![tactic(auto)]
+
 ghost use Rattle.std.specs.Prelude.{◌+◌, ◌≤◌, length};
 ghost use Rattle.lines.specs.Text.{Wrote};
 ghost use Rattle.answers.specs.OrderAnswers.{answer_said};

@@ -1,4 +1,7 @@
 // What the exported calls return: document 01's numbers and values, an enum taken apart.
+
+#![tactic(auto)]
+
 ghost use Rattle.std.specs.Prelude.{◌≡◌};
 ghost use Rattle.walk.specs.Answers.{said_of};
 ghost use Rattle.returns.specs.Figures.{position_in, default_in, premium_in, net_in, ratio_in, allotted_by};

@@ -1,4 +1,7 @@
 // The rows of a walk, several steps back, with room for the tables.
+
+#![tactic(auto)]
+
 ghost use Rattle.std.specs.Prelude.{◌≡◌};
 ghost use Rattle.sheet.specs.Spans.{terms_in};
 ghost use Rattle.tree.specs.Sheet.{default_of, premium_of};

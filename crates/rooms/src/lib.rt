@@ -1,4 +1,7 @@
 // The calls of the walk, lent rows of the right length.
+
+#![tactic(auto)]
+
 ghost use Rattle.std.specs.Prelude.{◌≡◌, [], ◌+◌, min, length};
 ghost use Rattle.sheet.specs.Spans.{brought_in};
 ghost use Rattle.sheet.specs.Terms.{bare};

@@ -1,1 +1,4 @@
 // Places on a cycle and turns over many calls: see specs/ and proofs/.
+
+#![tactic(auto)]
+

@@ -1,2 +1,5 @@
 // The rows of a walk: what they hold, and one step back.
+
+#![tactic(auto)]
+
 pub mod step; // step.rt: one step back

@@ -1,4 +1,7 @@
 // A sheet: its figures by value, and where each of its lists stands in one lent list of numbers.
+
+#![tactic(auto)]
+
 ghost use Rattle.std.specs.Prelude.{◌≡◌, ◌<◌, length, get_or};
 ghost use Rattle.sheet.specs.Spans.{list_in};
 

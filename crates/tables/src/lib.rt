@@ -1,4 +1,7 @@
 // The tables of a walk back, by tranche and count: what a default pays, and what is outstanding.
+
+#![tactic(auto)]
+
 ghost use Rattle.std.specs.Prelude.{◌≡◌, cond, ◌||◌, suc, ◌≤◌, length};
 ghost use Rattle.sheet.specs.Terms.{bare};
 ghost use Rattle.sheet.specs.Limits.{TranchesWithin};

@@ -1,4 +1,7 @@
 // The totals of a book (T-09): what is taken, and exact sums of nominal times W.
+
+#![tactic(auto)]
+
 ghost use Rattle.std.specs.Prelude.{◌≡◌, ◌*◌, ◌≤◌, nat_abs, length};
 ghost use Rattle.totals.specs.Totals.{all_within, taken, Taken};
 ghost use Rattle.totals.specs.Sums.{Room, Grown, Added, Summed, Figures};

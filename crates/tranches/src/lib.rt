@@ -1,4 +1,7 @@
 // What a tranche has lost and has outstanding, by the count of defaults, and the points between which it loses. Tranche r is the index.
+
+#![tactic(auto)]
+
 ghost use Rattle.std.specs.Prelude.{◌≡◌, suc, ◌*◌, ◌/◌, ◌≤◌, ◌<◌, length};
 ghost use Rattle.cash.specs.Units.{B};
 ghost use Rattle.sheet.specs.Terms.{bare};

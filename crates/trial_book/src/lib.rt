@@ -1,4 +1,7 @@
 // Books (T-09): what is lent, its line, and the bytes that are left.
+
+#![tactic(auto)]
+
 use trial::{print, registers};
 
 // The most that a net value W may be, one less and one more.

@@ -1,4 +1,7 @@
 // Issue and withdraw with the byte that each leaves, and what a cut write may leave.
+
+#![tactic(auto)]
+
 use trial::{at, print, registers, words};
 
 // Issue over one byte and withdraw over another, in registers of a length.

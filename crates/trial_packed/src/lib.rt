@@ -1,4 +1,7 @@
 // Packed coupons: read, and written with the bytes that are left.
+
+#![tactic(auto)]
+
 use trial::{print, registers};
 
 fn bytes(image: &[u8]) {

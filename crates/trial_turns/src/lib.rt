@@ -1,4 +1,7 @@
 // Turns (T-11), by the call on numbers: the steps left, what is answered, and the places and steps left after it.
+
+#![tactic(auto)]
+
 use places::Turned;
 use trial::{print, registers};
 

@@ -1,4 +1,7 @@
 // The trial entries of document 01 that are not proved of the definitions, one line each, and every refusal beside what is just accepted.
+
+#![tactic(auto)]
+
 use trial::at::{Trial, made_up, walked, with};
 use trial::{at, print, words};
 use trial_calls::sheets;

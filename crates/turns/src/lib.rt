@@ -1,5 +1,8 @@
 // Turns among walks (T-11), on the turn table that a caller lends: records of a walk and its steps left.
 // A slice of structs leaves its whole proof to be written, so these functions are few and thin: the work is done in `places`, on numbers.
+
+#![tactic(auto)]
+
 ghost use Rattle.std.specs.Prelude.{◌≡◌, ◌≤◌, length};
 ghost use Rattle.turns.specs.Table.{copied_out, copied_in};
 ghost use Rattle.turns.specs.Turns.{turned};

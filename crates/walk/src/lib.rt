@@ -1,4 +1,7 @@
 // The walk over a sheet: open, back, value, hedge ratio and forward, each with every refusal. No call asks anything of its caller.
+
+#![tactic(auto)]
+
 ghost use Rattle.std.specs.Prelude.{◌≡◌};
 ghost use Rattle.sheet.specs.Spans.{brought_in};
 ghost use Rattle.walk.specs.Answers;

@@ -1,4 +1,7 @@
 // The words of a listing.
+
+#![tactic(auto)]
+
 ghost use Rattle.std.specs.Prelude.{◌+◌, ◌≤◌, length};
 ghost use Rattle.lines.specs.Text.{Wrote};
 ghost use Rattle.words.specs.Words.{word};

@@ -1,1 +1,4 @@
 // Wrong engines, each refuted: see specs/ and proofs/.
+
+#![tactic(auto)]
+

@@ -6,22 +6,15 @@ use Prim.Native.Nat.{ℕ, ◌*◌, ◌^◌, ◌≤◌, ◌<◌}
 use native.Mathlib.Nat.{mul-le-mul}
 use Rattle.cash.specs.Units.{B}
 use Rattle.cash.specs.Losses.{pool_recovery}
-use Rattle.cash.proofs.pool_recovery.Statement.{statement}
-use Rattle.cash.proofs.pool_recovery.Tie as tie
+use Rattle.cash.proofs.pool_recovery.Goals as goal
 
 few-fit : (few low : ℕ) → few ≤ 125 → low ≤ B → few * low < 2 ^ 64
 unfolding B
 few-fit few low h l = omega (arith, mul-le-mul h l)
 
-mul-result : tie.Need-overflow-mul-result
-mul-result c = record { fits = few-fit _ _ (omega arith) c.requires.2 }
+pub overflow_mul-result : goal.overflow_mul-result
+overflow_mul-result c = record { fits = few-fit _ _ (omega arith) c.requires.2 }
 
-div-result : tie.Need-nonzero-div-result
-div-result c = search rules
-
-returns : tie.Need-returns
+pub returns : goal.returns
 unfolding pool_recovery
 returns c = refl
-
-pub pool-recovery-spec : {M : Type 1} → statement M
-pool-recovery-spec = tie.close (tie.spec mul-result div-result returns)
