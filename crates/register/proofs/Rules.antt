@@ -11,9 +11,7 @@ use types.Run.{OneOf}
 use denote.Enum.Declared.{tag_of}
 use lib.ListN.{length, get_or, set}
 use Rattle.register.specs.declared.answers.Status.{Status}
-use Rattle.register.specs.declared.answers.Status.TheVariants as Status
 use Rattle.register.specs.declared.answers.WriteAnswer.{WriteAnswer}
-use Rattle.register.specs.declared.answers.WriteAnswer.TheVariants as WriteAnswer
 use Rattle.register.specs.Register.{status_in, number_of, Write, issue, withdraw, by_status, byte_of, answer_of, is_accepted, leaves_of}
 use Rattle.register.specs.Rules.{Unissued, Live, Withdrawn, IssueEffect, WithdrawEffect}
 use Rattle.register.specs.contracts.answers.WriteAnswer.{the_type}
