@@ -20,7 +20,7 @@ pub use sheet::{Pool, Sheet};
 
 // A walk: whether it is open, the number of its sheet, and the step it stands at. A fresh one is all zeros.
 #[repr(C)]
-#[derive(Drop)]
+#[derive(Clone, Copy)]
 pub struct Walk {
     pub open: bool,
     pub number: u8,
@@ -28,7 +28,7 @@ pub struct Walk {
 }
 
 // An answer with the walk handed back.
-#[derive(Drop)]
+#[derive(Clone, Copy)]
 pub struct Reply {
     pub answer: Answer,
     pub walk: Walk,
