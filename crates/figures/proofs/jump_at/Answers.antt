@@ -35,4 +35,4 @@ returns c =
     let next : let s = c in c.node_at-next.result ≡ node_of sheet.sheet rows s.args.tranche (suc s.args.count) = let s = c in c.node_at-next.ensures ∙ ap (node_of sheet.sheet rows s.args.tranche) (add-one s.args.count) in
     let p = c in
     let s = c in
-    c.jump.ensures ∙ (λ i. jump_of (c.number_at.ensures i) (here i) (next i))
+    to_z-of_z w64 c.jump.result (sfits_of c.jump.type_inv) ∙ c.jump.ensures ∙ (λ i. jump_of (c.number_at.ensures i) (here i) (next i))

@@ -75,6 +75,6 @@ returns c =
     let default-here : get_or c.args.defaults.now place 0 ≡ node_in sheet.sheet c.args.defaults.now c.args.tranche c.args.count = node_place sheet.sheet c.args.defaults.now c.args.tranche c.args.count in
     let premium-here : get_or c.args.premiums.now place 0 ≡ node_in sheet.sheet c.args.premiums.now c.args.tranche c.args.count = node_place sheet.sheet c.args.premiums.now c.args.tranche c.args.count in
     let s = c in
-    let w = c.net_value.ensures in
+    let w = to_z-of_z w64 c.net_value.result (sfits_of c.net_value.type_inv) ∙ c.net_value.ensures in
     (λ i. Worth (get_or s.args.defaults.now place 0) (get_or s.args.premiums.now place 0) (w i))
     ∙ (λ i. Worth (default-here i) (premium-here i) (net_value (default-here i) (c.number_at-coupon.ensures i) (premium-here i)))
