@@ -8,7 +8,7 @@ use native.Mathlib.Decide.{ℕ_discrete}
 use native.Mathlib.Omega.{arith}
 use lib.ListN.{length, get_or}
 use Rattle.images.specs.Images.{packed_value, Digits, digits_bad, IsImage, image_of}
-use Rattle.images.proofs.Digits.{good_digits, digits_good, digits_bad}
+use Rattle.images.proofs.Digits.{good_digits, digits_good, bad_digits}
 use Rattle.images.proofs.Images.{image_of, image_alone}
 use Rattle.packed.specs.declared.Reading.{Reading}
 use Rattle.packed.specs.declared.Reading.TheVariants as Reading
@@ -30,7 +30,7 @@ module _ (l : List ℕ) where
   our_reading =
       record {
         wrong_length = λ h. gives (read_length l h);
-        bad_digit = λ h d. gives (read_digit l h (digits_bad l h d));
+        bad_digit = λ h d. gives (read_digit l h (bad_digits l h d));
         over_limit = λ h d o. gives (read_limit l h (digits_good l h d) o);
         accepted = λ h d o. gives (read_value l h (digits_good l h d) o);
       }

@@ -11,9 +11,7 @@ use types.Run.{OneOf}
 use denote.Enum.Declared.{tag_of}
 use lib.ListN.{length, get_or, set}
 use Rattle.register.specs.declared.answers.Status.{Status}
-use Rattle.register.specs.declared.answers.Status.TheVariants as Status
 use Rattle.register.specs.declared.answers.WriteAnswer.{WriteAnswer}
-use Rattle.register.specs.declared.answers.WriteAnswer.TheVariants as WriteAnswer
 use Rattle.register.specs.Register.{status_in, number_of, Write, issue, withdraw, by_status, byte_of, answer_of, is_accepted, leaves_of}
 use Rattle.register.specs.Rules.{Unissued, Live, Withdrawn, IssueEffect, WithdrawEffect}
 use Rattle.register.specs.contracts.answers.WriteAnswer.{the_type}
@@ -80,9 +78,8 @@ module _ (w : Write) (register : List ℕ) (x : ℕ) where
       (e, (leaves, subst (Rule w register x (number_of a)) (sym leaves) rule))
 
   -- An answer other than Accepted leaves the register.
-  pub kept : (a : WriteAnswer) → OneOf (1 ∷ 2 ∷ 3 ∷ 4 ∷ []) (tag_of the_type a) → register ≡ left w register x a
-  kept WriteAnswer.Accepted t = absurd (⊎_elim (λ (z : ◌≡◌ {A = ℕ} 0 1). omega arith)
-      (⊎_elim (λ (z : ◌≡◌ {A = ℕ} 0 2). omega arith) (⊎_elim (λ (z : ◌≡◌ {A = ℕ} 0 3). omega arith) (λ (z : ◌≡◌ {A = ℕ} 0 4). omega arith))) t)
+  pub kept : (a : WriteAnswer) → (a ≡ WriteAnswer.Accepted → ⊥) → register ≡ left w register x a
+  kept WriteAnswer.Accepted t = absurd (t refl)
   kept WriteAnswer.Length t = refl
   kept WriteAnswer.Withdrawn t = refl
   kept WriteAnswer.Unissued t = refl
