@@ -8,7 +8,7 @@ ghost use Rattle.walk.specs.Answers;
 ghost use Rattle.walk.specs.CallLists.{own_rows, opening, back, value};
 ghost use Rattle.walk.specs.CallRules.{RatioRule, ForwardRule};
 ghost use Rattle.walk.specs.OurEngine.{walk_result, forward_result};
-ghost use Rattle.walk.specs.Contracts.{Promised};
+ghost use Rattle.walk.specs.CallContracts.{Promised};
 ghost use Rattle.rows.specs.Rows.{rows_of};
 ghost use Rattle.refusals.specs.Tests.{first};
 ghost use Rattle.walk.specs.Calls.{replied, forward_outcome, forward_tests, open_call, back_call, value_call, ratio_call, forward_call};
