@@ -6,7 +6,6 @@ use Rattle.walk.specs.Calls.{open_call}
 use Rattle.machine.specs.Rooms.{open_in_rooms}
 use Rattle.machine.proofs.LentRooms.{part_long, rooms_left}
 use borrow.Author.Rules.{rules}
-
 use Rattle.rooms.proofs.open.Goals as goal
 
 pub slice_bounds-open-end-2 : goal.slice_bounds-open-end-2
@@ -25,4 +24,4 @@ returns c =
     let sheet : Brought = brought_in c.args.sheet c.args.numbers.now in
     rooms_left sheet c.args.defaults.now c.args.premiums.now _ c.row_size-size.ensures c.requires.0 c.requires.1
     (λ (l : Rows). open_call sheet c.args.register.now c.args.walk l)
-    c.«open».ensures.0
+    c.«open».ensures.gives

@@ -2,7 +2,6 @@
 use native.Mathlib.Omega.{arith}
 use Rattle.machine.proofs.LentRooms.{product_left, product_right, product_most}
 use borrow.Author.Rules.{rules}
-
 use Rattle.rooms.proofs.row_size.Goals as goal
 
 pub returns-then-pool-ge-ROW_MOST : goal.returns-then-pool-ge-ROW_MOST
