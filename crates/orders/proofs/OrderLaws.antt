@@ -1,7 +1,7 @@
 -- What the functions of `orders` do for each order, on plain values.
 use Prim.Native.Nat.{ℕ}
 use mathlib.Core.Path.{◌≡◌, refl, sym, ap, ◌∙◌}
-use mathlib.Core.List.{List, [], ◌∷◌}
+use mathlib.Core.List.{List}
 use native.Mathlib.Omega.{arith}
 use lib.ListN.{length}
 use Rattle.register.specs.Register.{issue_answer, issue_leaves, withdraw_answer, withdraw_leaves}

@@ -8,7 +8,6 @@ use Rattle.orders.proofs.OrderLaws.{
   lengths_rooms,
   lengths_row,
 }
-use borrow.Author.Rules.{rules}
 use Rattle.orders.proofs.act.Goals as goal
 
 pub returns-in-Issue : goal.returns-in-Issue

@@ -4,7 +4,6 @@ use Rattle.sheet.specs.Brought.{Brought}
 use Rattle.sheet.specs.Spans.{brought_in}
 use Rattle.rows.specs.Rows.{Rows, rows_of}
 use Rattle.orders.proofs.OrderLaws.{open_calls, back_calls, reads_call}
-use borrow.Author.Rules.{rules}
 use Rattle.orders.proofs.call.Goals as goal
 
 pub returns-in-Open : goal.returns-in-Open

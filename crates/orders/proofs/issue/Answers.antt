@@ -1,7 +1,6 @@
 -- `orders::issue` meets its contract.
 use mathlib.Core.Path.{refl, ap, ◌∙◌}
 use Rattle.walk.specs.Answers.{said_by}
-use borrow.Author.Rules.{rules}
 use Rattle.orders.proofs.issue.Goals as goal
 
 pub returns : goal.returns

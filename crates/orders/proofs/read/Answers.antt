@@ -3,7 +3,6 @@ use Rattle.sheet.specs.Brought.{Brought}
 use Rattle.sheet.specs.Spans.{brought_in}
 use Rattle.rows.specs.Rows.{Rows, rows_of}
 use Rattle.orders.proofs.OrderLaws.{value_reads, delta_reads, nothing_read}
-use borrow.Author.Rules.{rules}
 use Rattle.orders.proofs.read.Goals as goal
 
 pub returns-in-Value : goal.returns-in-Value

@@ -1,7 +1,6 @@
 -- `orders::withdraw` meets its contract.
 use mathlib.Core.Path.{refl, ap, ◌∙◌}
 use Rattle.walk.specs.Answers.{said_by}
-use borrow.Author.Rules.{rules}
 use Rattle.orders.proofs.withdraw.Goals as goal
 
 pub returns : goal.returns
