@@ -8,12 +8,12 @@ use Rattle.render.specs.Lines.{answer_text, fields, width}
 use Rattle.render.proofs.Puts.{Put, both, last, wider, put_byte, put_zero, put_wide, put_sign, byte_long, zero_long, signed_long, count_fits}
 use Rattle.render.proofs.put_answer.Goals as goal
 
--- the answer's text was written
-abbrev Said : List ℕ → ℕ → OrderAnswer → List ℕ → ℕ → Type 0
-Said before at a after end = Put before at (answer_text (answer_said a)) after end (width (answer_said a))
+-- the text of an answer was written, in the width that its contract names
+abbrev AnswerPut : List ℕ → ℕ → OrderAnswer → List ℕ → ℕ → Type 0
+AnswerPut before at a after end = Put before at (answer_text (answer_said a)) after end (width (answer_said a))
 
-said : {before after : List ℕ} {at end : ℕ} {a v : OrderAnswer} → a ≡ v → Said before at v after end → Said before at a after end
-said {before} {after} {at} {end} e p = subst (λ (x : OrderAnswer). Said before at x after end) (sym e) p
+put_same : {before after : List ℕ} {at end : ℕ} {a v : OrderAnswer} → a ≡ v → AnswerPut before at v after end → AnswerPut before at a after end
+put_same {before} {after} {at} {end} e p = subst (λ (x : OrderAnswer). AnswerPut before at x after end) (sym e) p
 
 pub put_decimal-requires : goal.put_decimal-requires
 put_decimal-requires c = omega (arith, byte_long c.in-Refused.number (search rules))
@@ -21,8 +21,8 @@ put_decimal-requires c = omega (arith, byte_long c.in-Refused.number (search rul
 pub returns-in-Refused : goal.returns-in-Refused
 unfolding answer_text fields
 returns-in-Refused c =
-    let p : Said _ _ (Refused c.in-Refused.number) _ _ = last (put_byte c.in-Refused.number (search rules) c.put_decimal.ensures) in
-    let q = said c.in-Refused.is p in
+    let p : AnswerPut _ _ (Refused c.in-Refused.number) _ _ = last (put_byte c.in-Refused.number (search rules) c.put_decimal.ensures) in
+    let q = put_same c.in-Refused.is p in
     record { writes = q.wrote; short = q.short }
 
 pub put_decimal-requires-in-Done : goal.put_decimal-requires-in-Done
@@ -31,8 +31,8 @@ put_decimal-requires-in-Done c = omega (arith, zero_long)
 pub returns-in-Done : goal.returns-in-Done
 unfolding answer_text fields
 returns-in-Done c =
-    let p : Said _ _ Done _ _ = wider (lit≤ tt) (last (put_zero c.put_decimal-in-Done.ensures)) in
-    let q = said c.in-Done.is p in
+    let p : AnswerPut _ _ Done _ _ = wider (lit≤ tt) (last (put_zero c.put_decimal-in-Done.ensures)) in
+    let q = put_same c.in-Done.is p in
     record { writes = q.wrote; short = q.short }
 
 pub put_decimal-b-requires : goal.put_decimal-b-requires
@@ -47,9 +47,9 @@ pub returns-in-Position : goal.returns-in-Position
 unfolding answer_text fields
 returns-in-Position c =
     let i = c.in-Position.position in
-    let p : Said _ _ (Position i) _ _ = wider (lit≤ tt)
+    let p : AnswerPut _ _ (Position i) _ _ = wider (lit≤ tt)
     (both (put_zero c.put_decimal-b.ensures) (last (put_wide i (search rules) c.put_count.ensures))) in
-    let q = said c.in-Position.is p in
+    let q = put_same c.in-Position.is p in
     record { writes = q.wrote; short = q.short }
 
 pub put_decimal-b-requires-in-Worth : goal.put_decimal-b-requires-in-Worth
@@ -75,12 +75,12 @@ pub returns-in-Worth : goal.returns-in-Worth
 unfolding answer_text fields
 returns-in-Worth c =
     let t = c.in-Worth in
-    let p : Said _ _ (Worth t.d t.a t.w) _ _ = wider (lit≤ tt)
+    let p : AnswerPut _ _ (Worth t.d t.a t.w) _ _ = wider (lit≤ tt)
     (both (put_zero c.put_decimal-b-in-Worth.ensures)
     (both (put_wide t.d (search rules) c.put_count-c.ensures)
     (both (put_wide t.a (search rules) c.put_count-e.ensures)
     (last (put_sign t.w (search rules) c.put_field.ensures))))) in
-    let q = said t.is p in
+    let q = put_same t.is p in
     record { writes = q.wrote; short = q.short }
 
 pub put_decimal-b-requires-in-Ratio : goal.put_decimal-b-requires-in-Ratio
@@ -95,9 +95,9 @@ pub returns-in-Ratio : goal.returns-in-Ratio
 unfolding answer_text fields
 returns-in-Ratio c =
     let z = c.in-Ratio.ratio in
-    let p : Said _ _ (Ratio z) _ _ = wider (lit≤ tt)
+    let p : AnswerPut _ _ (Ratio z) _ _ = wider (lit≤ tt)
     (both (put_zero c.put_decimal-b-in-Ratio.ensures) (last (put_sign z (search rules) c.put_field-in-Ratio.ensures))) in
-    let q = said c.in-Ratio.is p in
+    let q = put_same c.in-Ratio.is p in
     record { writes = q.wrote; short = q.short }
 
 pub put_decimal-b-requires-in-Probability : goal.put_decimal-b-requires-in-Probability
@@ -112,7 +112,7 @@ pub returns-in-Probability : goal.returns-in-Probability
 unfolding answer_text fields
 returns-in-Probability c =
     let n = c.in-Probability.q in
-    let p : Said _ _ (Probability n) _ _ = wider (lit≤ tt)
+    let p : AnswerPut _ _ (Probability n) _ _ = wider (lit≤ tt)
     (both (put_zero c.put_decimal-b-in-Probability.ensures) (last (put_wide n (search rules) c.put_count-in-Probability.ensures))) in
-    let q = said c.in-Probability.is p in
+    let q = put_same c.in-Probability.is p in
     record { writes = q.wrote; short = q.short }
