@@ -24,7 +24,7 @@ fn failed() -> log::Failed {
 #[test]
 fn errors_of_a_place_are_its_own() {
     let failed = failed();
-    assert!(failed.by_itself("proofs/Losses.antt", Some("loss-most")));
+    assert!(failed.by_itself("proofs/Losses.antt", Some("loss_most")));
     assert!(failed.by_itself("proofs/half/Proof.antt", None));
     assert!(failed.by_itself("proofs/whole/Proof.antt", Some("add-size")));
     assert!(failed.by_itself("proofs/Sums.antt", None));
@@ -36,7 +36,7 @@ fn what_only_follows_does_not_count() {
     assert!(!failed.by_itself("proofs/half/Proof.antt", Some("half-spec")));
     assert!(!failed.by_itself("proofs/other/Proof.antt", None));
     assert!(!failed.by_itself("proofs/whole/Proof.antt", Some("returns")));
-    assert!(!failed.by_itself("proofs/Losses.antt", Some("loss-least")));
+    assert!(!failed.by_itself("proofs/Losses.antt", Some("loss_least")));
     assert!(failed.all.contains(&("proofs/half/Proof.antt".into(), "half-spec".into())));
 }
 
