@@ -10,7 +10,7 @@ ghost use Rattle.amounts.specs.Amounts.{size_of, Carried, figure_of, Proper, Sho
 pub const BILLION: u64 = 1_000_000_000;
 
 // A number without a sign.
-#[derive(Drop)]
+#[derive(Clone, Copy)]
 pub struct Amount {
     pub billions: u64,
     pub units: u64,

@@ -6,7 +6,7 @@ ghost use Rattle.std.specs.Prelude.{◌≡◌};
 ghost use Rattle.walk.specs.Answers.{said_of, said_by};
 ghost use Rattle.answers.specs.OrderAnswers.{answer_said};
 
-#[derive(Drop)]
+#[derive(Clone, Copy)]
 pub enum OrderAnswer {
     // a refusal, by document 01's number
     Refused(u8),

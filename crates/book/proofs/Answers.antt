@@ -11,7 +11,6 @@ use lib.ListN.{length}
 use Rattle.totals.specs.Totals.{Taken, taken}
 use Rattle.totals.proofs.Taken.{taken_told, taken_tests}
 use Rattle.book.specs.declared.Report.{Report}
-use Rattle.book.specs.declared.Report.TheVariants as Report
 use Rattle.book.specs.Lines.{book_line}
 use Rattle.book.specs.Answers.{report_answer}
 

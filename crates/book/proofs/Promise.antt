@@ -16,7 +16,6 @@ use Rattle.totals.proofs.Taken.{taken_told, taken_tests}
 use Rattle.totals.proofs.Laws.{gains_and_losses}
 use Rattle.totals.proofs.Partway.{sizes_of, gains_by_sizes, losses_by_sizes}
 use Rattle.book.specs.declared.Report.{Report}
-use Rattle.book.specs.declared.Report.TheVariants as Report
 use Rattle.book.specs.Lines.{IsLine, line_of, book_line}
 use Rattle.book.specs.Answers.{report_answer, starting_with, left_by, report_leaves}
 use Rattle.book.specs.Promise.{Result, Reporter, refuses, Reports, BookRule, Adds}

@@ -2,7 +2,6 @@
 use Rattle.std.specs.Prelude.{ℕ, cond, List, [], ◌∷◌, ◌++◌, eqb, ℤ, length, get_or, drop}
 use Rattle.totals.specs.Totals.{taken}
 use Rattle.book.specs.declared.Report.{Report}
-use Rattle.book.specs.declared.Report.TheVariants as Report
 use Rattle.book.specs.Lines.{book_line}
 
 -- The number of each answer, 0 if accepted, and the bytes of the line: none if refused.

@@ -169,12 +169,12 @@ loss_by (negsuc n) = refl
 
 -- Parts of the products, one by one.
 module _ (part : ℤ → ℤ → ℤ) (other : ℤ → ℤ) (is : (n w : ℤ) → part n w ≡ other (n *ℤ w)) where
-  added_by : (ns ws : List ℤ) → added_by part ns ws ≡ total_of other ns ws
+  added_is : (ns ws : List ℤ) → added_by part ns ws ≡ total_of other ns ws
   unfolding total_of
-  added_by [] ws = refl
-  added_by (n ∷ ns) [] = refl
-  added_by (n ∷ ns) (w ∷ ws) =
-      ap (λ (z : ℤ). z +ℤ added_by part ns ws) (is n w) ∙ ap (λ (z : ℤ). other (n *ℤ w) +ℤ z) (added_by ns ws)
+  added_is [] ws = refl
+  added_is (n ∷ ns) [] = refl
+  added_is (n ∷ ns) (w ∷ ws) =
+      ap (λ (z : ℤ). z +ℤ added_by part ns ws) (is n w) ∙ ap (λ (z : ℤ). other (n *ℤ w) +ℤ z) (added_is ns ws)
 
 signs_line : (ns ws : List ℤ) →
     line_of (total ns ws) (added_by (λ n w. cond (negative (n *ℤ w)) (pos 0) (with_sign false (nat_abs (n *ℤ w)))) ns ws)
@@ -184,9 +184,9 @@ signs_line ns ws =
     ap
     (λ (x : ℤ).
     line_of (total ns ws) x (added_by (λ n w. cond (negative (n *ℤ w)) (with_sign true (nat_abs (n *ℤ w))) (pos 0)) ns ws))
-    (added_by (λ n w. cond (negative (n *ℤ w)) (pos 0) (with_sign false (nat_abs (n *ℤ w)))) gain_of (λ n w. gain_by (n *ℤ w)) ns ws)
+    (added_is (λ n w. cond (negative (n *ℤ w)) (pos 0) (with_sign false (nat_abs (n *ℤ w)))) gain_of (λ n w. gain_by (n *ℤ w)) ns ws)
     ∙ ap (line_of (total ns ws) (gains ns ws))
-    (added_by (λ n w. cond (negative (n *ℤ w)) (with_sign true (nat_abs (n *ℤ w))) (pos 0)) loss_of (λ n w. loss_by (n *ℤ w)) ns ws)
+    (added_is (λ n w. cond (negative (n *ℤ w)) (with_sign true (nat_abs (n *ℤ w))) (pos 0)) loss_of (λ n w. loss_by (n *ℤ w)) ns ws)
 
 pub unchanged : Unchanged
 unchanged =

@@ -13,7 +13,7 @@ use sheet::{COUNTS_MOST, ROW_MOST};
 pub const MOST: usize = 65536;
 
 // How many bytes of the listing were printed; or that out has not the room that any deck of that length fits in.
-#[derive(Drop)]
+#[derive(Clone, Copy)]
 pub enum Ran {
     Printed(usize),
     NoRoom,

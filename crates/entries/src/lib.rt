@@ -29,7 +29,7 @@ pub const NUMBERS: usize = ELAPSED + STEPS_MOST;
 
 // Whether there was a pool command, how many elapsed fractions were entered, and the sheet so far.
 // The starts of its spans stay, and their lengths grow.
-#[derive(Drop)]
+#[derive(Clone, Copy)]
 pub struct Layout {
     pub pooled: bool,
     pub entered: usize,

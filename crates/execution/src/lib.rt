@@ -14,7 +14,7 @@ use entries::Layout;
 use walk::Walk;
 
 // Where a run stands: the layout, the walk, the next offset, the end of what is printed, and whether it stopped.
-#[derive(Drop)]
+#[derive(Clone, Copy)]
 pub struct Progress {
     pub layout: Layout,
     pub walk: Walk,

@@ -16,7 +16,7 @@ use sheet::Sheet;
 pub mod replies; // replies.rt: what accepted calls answer
 
 // What a call answers.
-#[derive(Drop)]
+#[derive(Clone, Copy)]
 pub enum Answer {
     Refused(Refusal),
     // open and forward

@@ -51,8 +51,8 @@ module _ (l : List ℕ) (size : length l ≡ 4) where
         pair_good (get_or l 3 0) (d 3 (omega arith)),
       )
 
-  pub digits_bad : ¬ (Digits l) → digits_bad l ≡ true
-  digits_bad h = go (digits_bad l) refl
+  pub bad_digits : ¬ (Digits l) → digits_bad l ≡ true
+  bad_digits h = go (digits_bad l) refl
     where
       go : (b : Bool) → digits_bad l ≡ b → digits_bad l ≡ true
       go true e = e

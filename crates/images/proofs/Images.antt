@@ -73,9 +73,9 @@ module _ (v : ℕ) (h : v ≤ 10_000_000) where
   image_digits (suc (suc (suc zero))) b = pair_digits (v % 100) (omega arith)
   image_digits (suc (suc (suc (suc i)))) b = absurd (omega arith)
 
-  pub image_of : IsImage v (image_of v)
+  pub is_image : IsImage v (image_of v)
   unfolding image_of
-  image_of = record { size = refl; digits = image_digits; value = image_value }
+  is_image = record { size = refl; digits = image_digits; value = image_value }
 
 -- The pairs of digits of a number of four such pairs.
 module _ (x y z w : ℕ) (hx : x < 100) (hy : y < 100) (hz : z < 100) (hw : w < 100) where
@@ -118,4 +118,4 @@ pub image_alone : (v : ℕ) (l : List ℕ) → IsImage v l → l ≡ image_of v
 image_alone v l i = sym (image_again l i.size i.digits) ∙ ap image_of i.value
 
 pub one_image : (v : ℕ) → v ≤ 10_000_000 → OneImage v
-one_image v h = record { image = image_of v h; alone = image_alone v }
+one_image v h = record { image = is_image v h; alone = image_alone v }

@@ -22,7 +22,7 @@ fn output_room() -> [u8; 2097248]
 }
 
 // How many bytes were read, and whether that is all: the input ended there, or there was no more room.
-#[derive(Drop)]
+#[derive(Clone, Copy)]
 pub struct Reading {
     pub bytes: usize,
     pub whole: bool,

@@ -118,11 +118,10 @@ unfolding count_said
 said_count a row n k e h = sym (ap (λ (b : Answer). count_said b row n k) e ∙ rw (le-ltb n k h, count_said))
 
 -- what is no Done is said as it is
-pub said_other : (a : Answer) (row : List ℕ) (n k : ℕ) → OneOf (0 ∷ 2 ∷ 3 ∷ 4 ∷ []) (tag_of the_type a) → said_of a ≡ count_said a row n k
+pub said_other : (a : Answer) (row : List ℕ) (n k : ℕ) → (a ≡ Done → ⊥) → said_of a ≡ count_said a row n k
 unfolding count_said
 said_other (Refused f) row n k t = refl
-said_other Done row n k t = absurd (⊎_elim (λ (z : ◌≡◌ {A = ℕ} 1 0). omega arith)
-    (⊎_elim (λ (z : ◌≡◌ {A = ℕ} 1 2). omega arith) (⊎_elim (λ (z : ◌≡◌ {A = ℕ} 1 3). omega arith) (λ (z : ◌≡◌ {A = ℕ} 1 4). omega arith))) t)
+said_other Done row n k t = absurd (t refl)
 said_other (Position i) row n k t = refl
 said_other (Worth d p w) row n k t = refl
 said_other (Ratio z) row n k t = refl

@@ -20,7 +20,7 @@ use sheet::Sheet;
 use walk::{Reply, Walk};
 
 // What an order answers, with the walk handed back.
-#[derive(Drop)]
+#[derive(Clone, Copy)]
 pub struct Response {
     pub answer: OrderAnswer,
     pub walk: Walk,

@@ -1,22 +1,18 @@
 -- What reading and writing answer, case by case.
 use Prim.Native.Nat.{ℕ, ◌≤◌, ◌<◌}
-use mathlib.Core.Path.{◌≡◌, refl, sym, ◌∙◌, ap}
-use mathlib.Core.Logic.{◌≢◌, ◌⊎◌, inl, inr, ⊎_elim}
+use mathlib.Core.Path.{◌≡◌, refl, ap}
+use mathlib.Core.Logic.{◌≢◌, ◌⊎◌, inl, inr}
 use mathlib.Core.Bool.{Bool, true, false}
-use mathlib.Core.List.{List, [], ◌∷◌}
+use mathlib.Core.List.{List}
 use native.Mathlib.Decide.{ℕ_discrete}
 use native.Mathlib.Omega.{arith}
 use borrow.Author.Tests.{eq-eqb, ne_eqb, lt-ltb, le-ltb, ltb-true, ltb-false}
-use types.Run.{OneOf}
-use denote.Enum.Declared.{tag_of}
-use lib.ListN.{length, get_or}
+use lib.ListN.{length}
 use lib.Dec.{ltb}
 use Rattle.images.specs.Images.{packed_value, digits_bad}
 use Rattle.packed.specs.declared.Reading.TheVariants as Reading
 use Rattle.packed.specs.declared.Writing.{Writing}
-use Rattle.packed.specs.declared.Writing.TheVariants as Writing
 use Rattle.packed.specs.Answers.{writing_number, read_answer, write_answer, left_by}
-use Rattle.packed.specs.contracts.Writing.{the_type}
 
 -- Within a limit or over it.
 pub over_or_within : (most v : ℕ) → (most < v) ⊎ (v ≤ most)
@@ -63,7 +59,7 @@ module _ (l : List ℕ) (v : ℕ) where
       go (yes h) (inr o) = (h, o)
 
   -- An answer other than Written leaves what was lent.
-  pub kept : (a : Writing) → OneOf (1 ∷ 2 ∷ []) (tag_of the_type a) → l ≡ left_by a l v
-  kept Writing.Written t = absurd (⊎_elim (λ (z : ◌≡◌ {A = ℕ} 0 1). omega arith) (λ (z : ◌≡◌ {A = ℕ} 0 2). omega arith) t)
+  pub kept : (a : Writing) → (a ≡ Writing.Written → ⊥) → l ≡ left_by a l v
+  kept Writing.Written t = absurd (t refl)
   kept Writing.Length t = refl
   kept Writing.OverLimit t = refl

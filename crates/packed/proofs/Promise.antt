@@ -3,17 +3,15 @@ use Prim.Native.Nat.{ℕ, suc, ◌≤◌, ◌<◌}
 use mathlib.Core.Path.{◌≡◌, refl, sym, ◌∙◌, ap, subst}
 use mathlib.Core.Logic.{◌≢◌, ◌⊎◌, inl, inr}
 use mathlib.Core.Bool.{Bool, true, false, true≢false}
-use mathlib.Core.List.{List, [], ◌∷◌}
+use mathlib.Core.List.{List}
 use native.Mathlib.Decide.{ℕ_discrete}
 use native.Mathlib.Omega.{arith}
 use lib.ListN.{length, get_or}
 use Rattle.images.specs.Images.{packed_value, Digits, digits_bad, IsImage, image_of}
-use Rattle.images.proofs.Digits.{good_digits, digits_good, digits_bad}
-use Rattle.images.proofs.Images.{image_of, image_alone}
+use Rattle.images.proofs.Digits.{good_digits, digits_good, bad_digits}
+use Rattle.images.proofs.Images.{is_image, image_alone}
 use Rattle.packed.specs.declared.Reading.{Reading}
-use Rattle.packed.specs.declared.Reading.TheVariants as Reading
 use Rattle.packed.specs.declared.Writing.{Writing}
-use Rattle.packed.specs.declared.Writing.TheVariants as Writing
 use Rattle.packed.specs.Answers.{read_answer, write_answer, left_by, write_leaves}
 use Rattle.packed.specs.Promise.{ReadResult, WriteResult, Codec, accepts, refuses, ReadRule, WriteRule, Keeps, read_by, written_by, ours}
 use Rattle.packed.proofs.Answers.{over_or_within, read_length, read_digit, read_limit, read_value}
@@ -30,7 +28,7 @@ module _ (l : List ℕ) where
   our_reading =
       record {
         wrong_length = λ h. gives (read_length l h);
-        bad_digit = λ h d. gives (read_digit l h (digits_bad l h d));
+        bad_digit = λ h d. gives (read_digit l h (bad_digits l h d));
         over_limit = λ h d o. gives (read_limit l h (digits_good l h d) o);
         accepted = λ h d o. gives (read_value l h (digits_good l h d) o);
       }
@@ -47,7 +45,7 @@ module _ (l : List ℕ) (v : ℕ) where
       record {
         wrong_length = λ h. leaves (write_length l v h);
         over_limit = λ h o. leaves (write_limit l v h o);
-        accepted = λ h o. (ap (λ r. r.number) (our_image h o), subst (λ r. IsImage v r.left) (sym (our_image h o)) (image_of v o));
+        accepted = λ h o. (ap (λ r. r.number) (our_image h o), subst (λ r. IsImage v r.left) (sym (our_image h o)) (is_image v o));
       }
 
 -- What the contracts say: the equations, and with them the rules.
@@ -128,7 +126,7 @@ accepted_is l v e = go (says l)
 
 read_image : (v : ℕ) → v ≤ 10_000_000 → ours.read (image_of v) ≡ accepts v
 read_image v o =
-    let i = image_of v o in
+    let i = is_image v o in
     (our_reading (image_of v)).accepted i.size i.digits (omega (arith, o, i.value)) ∙ ap accepts i.value
 
 written_image : (l : List ℕ) (v : ℕ) → (ours.write l v).number ≡ 0 → (v ≤ 10_000_000) × ((ours.write l v).left ≡ image_of v)
@@ -152,4 +150,4 @@ ours_keeps =
     shared l k a b p q e =
         let (o, i) = written_image l a p in
         let (u, j) = written_image k b q in
-        sym (image_of a o).value ∙ ap packed_value (sym i ∙ e ∙ j) ∙ (image_of b u).value
+        sym (is_image a o).value ∙ ap packed_value (sym i ∙ e ∙ j) ∙ (is_image b u).value

@@ -2,9 +2,7 @@
 use Rattle.std.specs.Prelude.{ℕ, cond, List, [], ◌∷◌, eqb, ltb, length, get_or}
 use Rattle.images.specs.Images.{packed_value, digits_bad, image_of}
 use Rattle.packed.specs.declared.Reading.{Reading}
-use Rattle.packed.specs.declared.Reading.TheVariants as Reading
 use Rattle.packed.specs.declared.Writing.{Writing}
-use Rattle.packed.specs.declared.Writing.TheVariants as Writing
 
 -- The number of each answer, 0 if accepted, and the coupon of a reading: none if refused.
 abbrev pub reading_number : Reading → ℕ

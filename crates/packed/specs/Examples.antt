@@ -1,5 +1,5 @@
 -- Images written out, with what is read and written. Proved in proofs/Examples.antt, by computation.
-use Rattle.std.specs.Prelude.{ℕ, ◌≡◌, List, [], ◌∷◌}
+use Rattle.std.specs.Prelude.{ℕ, ◌≡◌, [], ◌∷◌}
 use Rattle.packed.specs.Promise.{ReadResult, WriteResult, accepts, refuses, ours}
 
 abbrev pub four_read : ℕ → ℕ → ℕ → ℕ → ReadResult

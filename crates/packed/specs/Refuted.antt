@@ -1,5 +1,5 @@
 -- Readings and writings other than ours, nearly all by one fault, and that none keeps the promise. Proved in proofs/Refuted.antt.
-use Rattle.std.specs.Prelude.{ℕ, ◌+◌, ◌*◌, ◌/◌, ◌%◌, ◌≡◌, Bool, true, false, cond, not, ◌||◌, ◌&&◌, List, [], ◌∷◌, map, reverse, eqb, ltb, length, get_or, replicate}
+use Rattle.std.specs.Prelude.{ℕ, ◌+◌, ◌*◌, ◌/◌, ◌%◌, ◌≡◌, Bool, true, false, cond, not, ◌||◌, List, [], ◌∷◌, map, reverse, eqb, ltb, length, get_or, replicate}
 use Rattle.images.specs.Images.{packed_value, digits_bad, image_of}
 use Rattle.packed.specs.Promise.{ReadResult, WriteResult, Codec, accepts, refuses, Keeps, ours}
 

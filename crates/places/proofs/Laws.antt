@@ -1,15 +1,15 @@
 -- What the definitions of turns come to, case by case. Assumes nothing.
 use mathlib.Core.Path.{◌≡◌, refl, sym, ap, ◌∙◌}
 use mathlib.Core.Bool.{Bool, true, false, cond, true≢false}
-use mathlib.Core.List.{List, [], ◌∷◌, ◌++◌}
+use mathlib.Core.List.{List, [], ◌∷◌}
 use Prim.Native.Nat.{ℕ, zero, suc, ◌+◌, ◌-◌, ◌<◌, ◌≤◌}
 use native.Mathlib.Omega.{arith}
-use lib.ListN.{length, get_or, set, drop, length-set}
+use lib.ListN.{length, get_or, drop}
 use lib.Seq.{drop-cons, drop-length}
 use native.Mathlib.Numerals.{add-one}
 use lib.Dec.{ltb, leb}
 use borrow.Author.Tests.{lt-ltb, le-ltb, le-leb, lt-leb, ltb-true, ltb-false, leb-true, leb-false}
-use Rattle.places.specs.Places.{next_place, first_of, chosen, one_off, Stretch, rests, turn_then, turns_of, any_over, taken}
+use Rattle.places.specs.Places.{next_place, first_of, chosen, one_off, rests, turn_then, turns_of, any_over, taken}
 
 pub next_more : (n p : ℕ) → p + 1 < n → next_place n p ≡ p + 1
 unfolding next_place

@@ -10,10 +10,9 @@ use lib.Seq.{take-suc-set, drop-set-lt, drop-drop, length-take-le}
 use lib.Dec.{ltb}
 use borrow.Author.Tests.{lt-ltb, le-ltb, ltb-true, ltb-false}
 use Rattle.places.specs.declared.Turned.{Turned}
-use Rattle.places.specs.declared.Turned.TheVariants as Turned
 use Rattle.places.specs.Places.{next_place, first_of, chosen, one_off, Stretch, rests, turn_then, turns_of, taken}
 use Rattle.places.specs.Places.{Outcome, fills, as_lent, served, among_first, served_first}
-use Rattle.places.proofs.Laws.{turns_stop, turns_go, sub_suc, first_hit, first_miss, Fine, fine}
+use Rattle.places.proofs.Laws.{turns_stop, turns_go, sub_suc, first_hit, first_miss, fine}
 
 pub first_none : (l : List ℕ) (p : ℕ) → first_of l p 0 < length l → ⊥
 unfolding first_of

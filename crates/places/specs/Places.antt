@@ -1,8 +1,7 @@
 -- Turns among walks (T-11): what a call does to the steps left, to the place served last and to the lent list.
 -- The steps left are a list of numbers, one a walk; places are counted from 0.
-use Rattle.std.specs.Prelude.{Bool, true, false, cond, ◌&&◌, ◌||◌, List, [], ◌∷◌, ◌++◌, ℕ, zero, suc, ◌+◌, ◌-◌, length, get_or, set, take, drop, ltb, leb}
+use Rattle.std.specs.Prelude.{Bool, false, cond, ◌||◌, List, [], ◌∷◌, ◌++◌, ℕ, zero, suc, ◌+◌, ◌-◌, length, get_or, set, take, drop, ltb, leb}
 use Rattle.places.specs.declared.Turned.{Turned}
-use Rattle.places.specs.declared.Turned.TheVariants as Turned
 
 -- ---- whose turn it is
 

@@ -6,7 +6,7 @@ ghost use Rattle.std.specs.Prelude.{◌≡◌};
 ghost use Rattle.refusals.specs.Refusals.{refusal_number};
 
 // Every refusal of a call, with the number and word of document 01, and of T-01 and T-06 for the last two.
-#[derive(Drop)]
+#[derive(Clone, Copy)]
 pub enum Refusal {
     // 1, pool
     Pool,
@@ -47,7 +47,7 @@ pub enum Refusal {
 }
 
 // What a list of checks finds: the first refusal, or nothing.
-#[derive(Drop)]
+#[derive(Clone, Copy)]
 pub enum Found {
     Fine,
     Refused(Refusal),

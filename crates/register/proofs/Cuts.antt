@@ -12,7 +12,6 @@ use lib.Dec.{T, eqb, lit<}
 use lib.ListN.{length, get_or, length-set, get_or-eq_default}
 use lib.Seq.{get_or-set_same, get_or-set_other}
 use Rattle.register.specs.declared.answers.Status.{Status}
-use Rattle.register.specs.declared.answers.Status.TheVariants as Status
 use Rattle.register.specs.declared.answers.WriteAnswer.{WriteAnswer}
 use Rattle.register.specs.Register.{status_of, Write, issue, withdraw, byte_of, answer_of, is_accepted}
 use Rattle.register.specs.Cut.{may_be_left, cut_bytes, is_one_of, CutsFind}

@@ -9,7 +9,6 @@ use lib.ListN.{length, get_or, set, take, length-set, length-replicate}
 use lib.Seq.{get_or-set_other}
 use Rattle.register.specs.declared.answers.Status.TheVariants as Status
 use Rattle.register.specs.declared.answers.WriteAnswer.{WriteAnswer}
-use Rattle.register.specs.declared.answers.WriteAnswer.TheVariants as WriteAnswer
 use Rattle.register.specs.Register.{number_of, Write, issue, withdraw, byte_of, by_status, answer_of, is_accepted}
 use Rattle.register.specs.Events.{RegisterEvent, returned, cut, reads, blank_register, after_event, after_events, CanBe, AllCanBe, answer_given, withdraws, withdrawn_in, Gone, WithdrawalLasts}
 use Rattle.register.proofs.Masks.{both}
@@ -62,7 +61,7 @@ keeps z reads h = z
 
 pub keeps_all : {register : List ℕ} {x : ℕ} → Zero register x → (es : List RegisterEvent) → AllCanBe register es → Zero (after_events register es) x
 keeps_all z [] h = z
-keeps_all z (e ∷ es) h = keeps_all (keeps z e h.0) es h.1
+keeps_all {register = register} z (e ∷ es) h = keeps_all {register = after_event register e} (keeps z e h.0) es h.1
 
 -- ---- up to the withdrawal
 

@@ -1,22 +1,16 @@
 -- Issue and withdraw, as specs/Register.antt computes them, keep document 01's rules, and nothing else does.
 use mathlib.Core.Bool.{cond}
 use mathlib.Core.Path.{◌≡◌, refl, sym, ◌∙◌, ap, subst}
-use mathlib.Core.Logic.{◌≢◌, ⊎_elim}
-use mathlib.Core.List.{List, [], ◌∷◌}
+use mathlib.Core.Logic.{◌≢◌}
+use mathlib.Core.List.{List}
 use Prim.Native.Nat.{ℕ}
 use native.Mathlib.Decide.{ℕ_discrete}
-use native.Mathlib.Omega.{arith}
 use borrow.Author.Tests.{eq-eqb, ne_eqb}
-use types.Run.{OneOf}
-use denote.Enum.Declared.{tag_of}
 use lib.ListN.{length, get_or, set}
 use Rattle.register.specs.declared.answers.Status.{Status}
-use Rattle.register.specs.declared.answers.Status.TheVariants as Status
 use Rattle.register.specs.declared.answers.WriteAnswer.{WriteAnswer}
-use Rattle.register.specs.declared.answers.WriteAnswer.TheVariants as WriteAnswer
 use Rattle.register.specs.Register.{status_in, number_of, Write, issue, withdraw, by_status, byte_of, answer_of, is_accepted, leaves_of}
 use Rattle.register.specs.Rules.{Unissued, Live, Withdrawn, IssueEffect, WithdrawEffect}
-use Rattle.register.specs.contracts.answers.WriteAnswer.{the_type}
 
 -- The register that a call leaves where it answers a.
 abbrev pub left : Write → List ℕ → ℕ → WriteAnswer → List ℕ
@@ -80,9 +74,8 @@ module _ (w : Write) (register : List ℕ) (x : ℕ) where
       (e, (leaves, subst (Rule w register x (number_of a)) (sym leaves) rule))
 
   -- An answer other than Accepted leaves the register.
-  pub kept : (a : WriteAnswer) → OneOf (1 ∷ 2 ∷ 3 ∷ 4 ∷ []) (tag_of the_type a) → register ≡ left w register x a
-  kept WriteAnswer.Accepted t = absurd (⊎_elim (λ (z : ◌≡◌ {A = ℕ} 0 1). omega arith)
-      (⊎_elim (λ (z : ◌≡◌ {A = ℕ} 0 2). omega arith) (⊎_elim (λ (z : ◌≡◌ {A = ℕ} 0 3). omega arith) (λ (z : ◌≡◌ {A = ℕ} 0 4). omega arith))) t)
+  pub kept : (a : WriteAnswer) → (a ≡ WriteAnswer.Accepted → ⊥) → register ≡ left w register x a
+  kept WriteAnswer.Accepted t = absurd (t refl)
   kept WriteAnswer.Length t = refl
   kept WriteAnswer.Withdrawn t = refl
   kept WriteAnswer.Unissued t = refl

@@ -1,9 +1,7 @@
 -- Document 01, 'Register' and 'Refusals in order': what a byte says, and what issue and withdraw answer and leave.
 use Rattle.std.specs.Prelude.{Bool, cond, List, ℕ, eqb, length, get_or, set}
 use Rattle.register.specs.declared.answers.Status.{Status}
-use Rattle.register.specs.declared.answers.Status.TheVariants as Status
 use Rattle.register.specs.declared.answers.WriteAnswer.{WriteAnswer}
-use Rattle.register.specs.declared.answers.WriteAnswer.TheVariants as WriteAnswer
 
 -- 'Register': FF is unissued, A5 live, all else withdrawn.
 abbrev pub status_of : ℕ → Status

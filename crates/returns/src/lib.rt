@@ -11,7 +11,7 @@ use walk::{Answer, Walk};
 
 // What open answers.
 #[repr(C)]
-#[derive(Drop)]
+#[derive(Clone, Copy)]
 pub struct Opened {
     pub number: u8,
     pub walk: Walk,
@@ -19,7 +19,7 @@ pub struct Opened {
 
 // What back answers: the new position, 0 if refused.
 #[repr(C)]
-#[derive(Drop)]
+#[derive(Clone, Copy)]
 pub struct Moved {
     pub number: u8,
     pub position: usize,
@@ -28,7 +28,7 @@ pub struct Moved {
 
 // What value answers: D, A and W, each 0 if refused.
 #[repr(C)]
-#[derive(Drop)]
+#[derive(Clone, Copy)]
 pub struct Valued {
     pub number: u8,
     pub default: u64,
@@ -39,7 +39,7 @@ pub struct Valued {
 
 // What hedge ratio answers: the ratio in millionths, 0 if refused.
 #[repr(C)]
-#[derive(Drop)]
+#[derive(Clone, Copy)]
 pub struct Hedged {
     pub number: u8,
     pub ratio: i64,
@@ -48,7 +48,7 @@ pub struct Hedged {
 
 // What a packed coupon is read as: the coupon, 0 if refused.
 #[repr(C)]
-#[derive(Drop)]
+#[derive(Clone, Copy)]
 pub struct Unpacked {
     pub number: u8,
     pub coupon: u64,
@@ -56,7 +56,7 @@ pub struct Unpacked {
 
 // What a book answers: the bytes of its line, 0 if refused.
 #[repr(C)]
-#[derive(Drop)]
+#[derive(Clone, Copy)]
 pub struct Booked {
     pub number: u8,
     pub length: usize,
@@ -64,7 +64,7 @@ pub struct Booked {
 
 // What a call for turns answers: how many places were written, 0 if refused, and the place served last.
 #[repr(C)]
-#[derive(Drop)]
+#[derive(Clone, Copy)]
 pub struct Allotted {
     pub number: u8,
     pub count: usize,

@@ -1,5 +1,5 @@
 -- The words of fairness: how far a place lies after another, and how many turns it has.
-use Rattle.std.specs.Prelude.{ℕ, zero, suc, ◌+◌, ◌-◌, cond, List, [], ◌∷◌, ltb, eqb}
+use Rattle.std.specs.Prelude.{ℕ, suc, ◌+◌, ◌-◌, cond, List, [], ◌∷◌, ltb, eqb}
 
 -- How many places on x lies from s, in a table of n, in cyclic order: 1 to n, and n from a place to itself.
 unfoldable pub ahead : ℕ → ℕ → ℕ → ℕ

@@ -1,4 +1,3 @@
 // Places on a cycle and turns over many calls: see specs/ and proofs/.
 
 #![tactic(auto)]
-

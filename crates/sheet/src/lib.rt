@@ -27,7 +27,7 @@ pub const ROW_MOST: usize = 1134;
 
 // A sheet's figures but for its lists: its names, steps, tranches, recovery and number.
 #[repr(C)]
-#[derive(Drop)]
+#[derive(Clone, Copy)]
 pub struct Pool {
     pub names: usize,
     pub steps: usize,
@@ -38,7 +38,7 @@ pub struct Pool {
 
 // Where a list stands among the numbers that are lent.
 #[repr(C)]
-#[derive(Drop)]
+#[derive(Clone, Copy)]
 pub struct Span {
     pub at: usize,
     pub length: usize,
@@ -46,7 +46,7 @@ pub struct Span {
 
 // A sheet as a call brings it; its numbers are lent beside it.
 #[repr(C)]
-#[derive(Drop)]
+#[derive(Clone, Copy)]
 pub struct Sheet {
     pub pool: Pool,
     pub attachments: Span,

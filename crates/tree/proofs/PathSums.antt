@@ -102,6 +102,7 @@ default_le t fair s k l a b f = go (default_case t fair s k l)
 guarded : (b : Bool) (c x : ℕ) → T b ⊎ (c ≡ 0) → cond b (c * x) 0 ≡ c * x
 guarded true c x h = refl
 guarded false c x (inr e) = omega (arith, ap (λ y. y * x) e)
+guarded false c x (inl a) = elim a [ ]
 
 -- the lists that begin with m: the chance of m, times the sum over the lists that follow
 first : (t : Tree) (f : List Move → ℕ) (h i k : ℕ) (m : Move) → T (leb (count_after k m) t.names) ⊎ (chance t (suc i) k m ≡ 0) →

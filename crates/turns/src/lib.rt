@@ -12,7 +12,7 @@ use walk::Walk;
 
 // A walk of the table, and its steps left.
 #[repr(C)]
-#[derive(Drop)]
+#[derive(Clone, Copy)]
 pub struct Turn {
     pub walk: Walk,
     pub left: u16,

@@ -11,7 +11,7 @@ use Rattle.walk.specs.Calls.{Outcome, open_call, back_call, value_call}
 use Rattle.walk.specs.OurEngine.{ours, walk_result}
 use Rattle.walk.specs.CallLists.{own_rows, Call, opening, back, value, State, CallResult, call_result, after_open, after_walk_call, Run, end}
 use Rattle.walk.specs.Liveness.{then}
-use Rattle.walk.specs.Contracts.{Continues, Promised}
+use Rattle.walk.specs.CallContracts.{Continues, Promised}
 use Rattle.walk.proofs.OurRules.{ours_rules}
 use Rattle.walk.proofs.FromRules.{lists}
 use Rattle.walk.proofs.Liveness.{end_then}

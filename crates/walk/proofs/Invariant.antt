@@ -239,7 +239,7 @@ module _ (e : Engine) (rules : Rules e) (sheets : ℕ → Brought) (bears : (y :
   keep_all : (s : State) (k : History) → Inv sheets s k → (l : List Call) → Inv sheets (state_after e sheets s l) (history_after e sheets s k l)
   unfolding state_after history_after
   keep_all s k inv [] = inv
-  keep_all s k inv (c ∷ l) = keep_all _ _ (keep s k inv c) l
+  keep_all s k inv (c ∷ l) = keep_all (call_result e sheets s c).state (noted k c (call_result e sheets s c).said) (keep s k inv c) l
 
 at_start : (sheets : ℕ → Brought) (s : State) → length s.register ≡ 256 → Inv sheets s no_history
 at_start sheets s e =

@@ -36,7 +36,7 @@ A_start x j i k = refl
 
 D_step : (x : Terms) (j h i k : ℕ) → roll_node (hazard_of x (suc i) k) (discount_of x (suc i)) (D x j h (suc i) (suc k) + (loss_of x j (suc k) - loss_of x j k)) (D x j h (suc i) k) ≡ D x j (suc h) i k
 unfolding D leg_value back back_from tree_of default_of default_cash default_payment
-D_step x j h i k = rw (add-zero (back_from _ _ _ h (suc i) k))
+D_step x j h i k = simp add-zero
 
 A_step : (x : Terms) (j h i k : ℕ) →
     roll_node (hazard_of x (suc i) k) (discount_of x (suc i))

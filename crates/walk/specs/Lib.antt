@@ -13,5 +13,5 @@ pub mod Liveness
 pub mod Power
 pub mod Promise
 pub mod Risk
-pub mod Contracts
+pub mod CallContracts
 pub mod Spans

@@ -8,7 +8,7 @@ ghost use Rattle.walk.specs.Answers;
 ghost use Rattle.walk.specs.CallLists.{own_rows, opening, back, value};
 ghost use Rattle.walk.specs.CallRules.{RatioRule, ForwardRule};
 ghost use Rattle.walk.specs.OurEngine.{walk_result, forward_result};
-ghost use Rattle.walk.specs.Contracts.{Promised};
+ghost use Rattle.walk.specs.CallContracts.{Promised};
 ghost use Rattle.rows.specs.Rows.{rows_of};
 ghost use Rattle.refusals.specs.Tests.{first};
 ghost use Rattle.walk.specs.Calls.{replied, forward_outcome, forward_tests, open_call, back_call, value_call, ratio_call, forward_call};
@@ -20,7 +20,7 @@ pub use sheet::{Pool, Sheet};
 
 // A walk: whether it is open, the number of its sheet, and the step it stands at. A fresh one is all zeros.
 #[repr(C)]
-#[derive(Drop)]
+#[derive(Clone, Copy)]
 pub struct Walk {
     pub open: bool,
     pub number: u8,
@@ -28,7 +28,7 @@ pub struct Walk {
 }
 
 // An answer with the walk handed back.
-#[derive(Drop)]
+#[derive(Clone, Copy)]
 pub struct Reply {
     pub answer: Answer,
     pub walk: Walk,

@@ -401,7 +401,7 @@ none_keeps =
     record {
       always_live_lem = not_always_live;
       issued_again_lem = not_issued_again;
-      byte_left = not_byte_left;
+      byte_left_lem = not_byte_left;
       issued_again_later = not_issued_again_later;
       byte_left_later = not_byte_left_later;
       bits_set_later = not_bits_set_later;

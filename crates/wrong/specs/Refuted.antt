@@ -50,7 +50,7 @@ Clearing e = (g : List ℕ) (y : ℕ) → Clears e g y
 pub record NoneKeeps : Type 0 where
   pub always_live_lem : Demand3 always_live → ⊥
   pub issued_again_lem : Demand3 issued_again → ⊥
-  pub byte_left : Demand3 byte_left → ⊥
+  pub byte_left_lem : Demand3 byte_left → ⊥
   pub issued_again_later : Power issued_again → ⊥
   pub byte_left_later : Power byte_left → ⊥
   pub bits_set_later : Power bits_set → ⊥

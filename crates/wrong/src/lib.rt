@@ -1,4 +1,3 @@
 // Wrong engines, each refuted: see specs/ and proofs/.
 
 #![tactic(auto)]
-

@@ -3,7 +3,6 @@ use lib.Dec.{lit<}
 use Rattle.cash.specs.Units.{B}
 use Rattle.hedges.specs.Hedges.{change_of}
 use Rattle.hedges.proofs.Meant.{casts, nat, sub, fits, read}
-
 use Rattle.hedges.proofs.change.Goals as goal
 
 pub overflow_cast-result : goal.overflow_cast-result

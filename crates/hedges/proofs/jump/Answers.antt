@@ -1,5 +1,4 @@
 -- `hedges::jump` meets its contract: each change is as meant, and so is what the jump makes of them.
-use borrow.Author.Rules.{rules}
 use Prim.Native.Nat.{◌*◌}
 use lib.Dec.{lit<}
 use lib.IntN.{pos, ◌+ℤ◌, ◌*ℤ◌}
@@ -9,7 +8,6 @@ use Rattle.cash.specs.Units.{B}
 use Rattle.hedges.specs.Hedges.{change_of, jump_of}
 use Rattle.hedges.proofs.Meant.{Is, lit, nat, add, sub, mul, fits, read}
 use Rattle.hedges.proofs.Jumps.{changed}
-
 use Rattle.hedges.proofs.jump.Goals as goal
 
 -- what a default brings: loss and default leg together

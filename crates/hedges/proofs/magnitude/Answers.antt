@@ -3,7 +3,6 @@ use mathlib.Core.Path.{ap}
 use native.Mathlib.Omega.{arith}
 use lib.IntN.{nat_abs}
 use Rattle.hedges.proofs.Negated.{Negation, negation, negation_cast, negation_fits, negation_size, straight, read_is}
-
 use Rattle.hedges.proofs.magnitude.Goals as goal
 
 neg : (c : goal.Then-x-lt0) → Negation c.args.x

@@ -1,6 +1,4 @@
 -- `hedges::net_value` meets its contract.
-use borrow.Author.Rules.{rules}
-use Prim.Native.Nat.{◌*◌}
 use lib.Dec.{lit<}
 use lib.IntN.{pos, ◌*ℤ◌}
 use mir.Syntax.{w64}
@@ -8,7 +6,6 @@ use mir.Val.{to_z}
 use Rattle.cash.specs.Units.{B}
 use Rattle.hedges.specs.Hedges.{net_value}
 use Rattle.hedges.proofs.Meant.{Is, casts, lit, nat, sub, mul, fits, read}
-
 use Rattle.hedges.proofs.net_value.Goals as goal
 
 default-side : (c : goal.Start) → Is (pos 10_000_000 *ℤ to_z w64 c.args.d) (pos 10_000_000 *ℤ pos c.args.d) 10_000_000_000_000_000

@@ -1,0 +1,33 @@
+-- `ceilings::premium_most` meets its contract. Past the last step no step is to come.
+use borrow.Author.Rules.{rules}
+use Prim.Native.Nat.{◌+◌, ◌-◌, ◌*◌, ◌≤◌}
+use native.Mathlib.Omega.{arith}
+use lib.ListN.{drop}
+use Rattle.cash.specs.Units.{B}
+use Rattle.sheet.specs.Terms.{sum_of}
+use Rattle.rows.proofs.Sums.{sum_drop_most}
+use Rattle.ceilings.proofs.premium_most.Goals as goal
+
+pub returns-then-pool-position : goal.returns-then-pool-position
+unfolding B
+returns-then-pool-position c =
+    let low : c.accruals_after-after.result ≤ 10 * B = let s = c in
+    omega (arith, c.accruals_after-after.ensures, sum_drop_most s.args.position s.args.accruals.now, s.requires.0) in
+    let a = c in
+    (omega (arith, a.accruals_after-after.ensures, c.if-pool-position.true), omega (arith, low))
+
+pub overflow_add-result : goal.overflow_add-result
+unfolding B
+overflow_add-result c =
+    let low : c.accruals_after-after.result ≤ 10 * B = let s = c in
+    omega (arith, c.accruals_after-after.ensures, sum_drop_most s.args.position s.args.accruals.now, s.requires.0) in
+    let a = c in
+    omega (arith, low, c.requires.1)
+
+pub returns : goal.returns
+unfolding B
+returns c =
+    let low : c.accruals_after-after.result ≤ 10 * B = let s = c in
+    omega (arith, c.accruals_after-after.ensures, sum_drop_most s.args.position s.args.accruals.now, s.requires.0) in
+    let a = c in
+    (omega (arith, a.accruals_after-after.ensures), omega (arith, low, c.requires.1))

@@ -1,0 +1,56 @@
+-- The pool, then the lengths, then the figures.
+use mathlib.Core.Path.{◌≡◌, sym, ◌∙◌}
+use mathlib.Core.Bool.{false}
+use borrow.Author.Rules.{rules}
+use Rattle.sheet.specs.Brought.{Brought}
+use Rattle.sheet.specs.Spans.{brought_in}
+use Rattle.refusals.specs.Tests.{sheet_tests, pool_bad, lists_bad}
+use Rattle.rows.proofs.Search.{met_left, met_right, neither}
+use Rattle.refusals.proofs.FirstTest.{first_met, first_passed}
+use Rattle.refusals.proofs.Meanings.{pool_fine, lists_fine}
+use Rattle.checks.proofs.sheet_refusal.Goals as goal
+
+pub returns-then-pool_outside : goal.returns-then-pool_outside
+unfolding sheet_tests pool_bad
+returns-then-pool_outside c = sym (first_met _ _ _ (sym c.pool_outside.ensures ∙ c.if-pool_outside.true))
+
+pub lists_differ-requires : goal.lists_differ-requires
+unfolding pool_bad
+lists_differ-requires c =
+    let X : Brought = brought_in c.args.sheet c.args.numbers.now in
+    let pool-kept : pool_bad X.sheet ≡ false = sym c.pool_outside.ensures ∙ c.if-pool_outside.false in
+    let p = (pool_fine X.sheet).0 pool-kept in (p.names.1, p.tranches.1)
+
+pub returns-then-lists_differ : goal.returns-then-lists_differ
+unfolding sheet_tests pool_bad
+returns-then-lists_differ c =
+    let X : Brought = brought_in c.args.sheet c.args.numbers.now in
+    let pool-kept : pool_bad X.sheet ≡ false = sym c.pool_outside.ensures ∙ c.if-pool_outside.false in
+    sym (first_passed _ _ _ pool-kept ∙ first_met _ _ _ (met_left _ _ (sym c.lists_differ.ensures ∙ c.if-lists_differ.true)))
+
+pub returns-then-lent : goal.returns-then-lent
+unfolding sheet_tests pool_bad
+returns-then-lent c =
+    let X : Brought = brought_in c.args.sheet c.args.numbers.now in
+    let pool-kept : pool_bad X.sheet ≡ false = sym c.pool_outside.ensures ∙ c.if-pool_outside.false in
+    let i = c in
+    sym (first_passed _ _ _ pool-kept ∙ first_met _ _ _ (met_right (lists_bad X) _ c.if-lent.true))
+
+pub figures_refusal-requires : goal.figures_refusal-requires
+unfolding pool_bad
+figures_refusal-requires c =
+    let X : Brought = brought_in c.args.sheet c.args.numbers.now in
+    let pool-kept : pool_bad X.sheet ≡ false = sym c.pool_outside.ensures ∙ c.if-pool_outside.false in
+    let lists-kept : lists_bad X ≡ false = sym c.lists_differ.ensures ∙ c.if-lists_differ.false in
+    ((pool_fine X.sheet).0 pool-kept, (lists_fine _).0 lists-kept)
+
+pub returns : goal.returns
+unfolding sheet_tests pool_bad
+returns c =
+    let X : Brought = brought_in c.args.sheet c.args.numbers.now in
+    let pool-kept : pool_bad X.sheet ≡ false = sym c.pool_outside.ensures ∙ c.if-pool_outside.false in
+    let lists-kept : lists_bad X ≡ false = sym c.lists_differ.ensures ∙ c.if-lists_differ.false in
+    let e = c in
+    let i = e.before in
+    c.figures_refusal.ensures
+    ∙ sym (first_passed _ _ _ pool-kept ∙ first_passed _ _ _ (neither _ _ lists-kept e.if-lent.false))

@@ -1,0 +1,113 @@
+-- The starts, then the hazards, then the discounts, then the accruals, then the elapsed fractions.
+use borrow.Author.Rules.{rules}
+use mathlib.Core.Path.{◌≡◌, sym, ap, ◌∙◌}
+use mathlib.Core.Bool.{false}
+use mathlib.Core.List.{List, ◌∷◌}
+use lib.ListN.{length}
+use Rattle.cash.specs.Units.{B}
+use Rattle.sheet.specs.Terms.{Terms}
+use Rattle.sheet.specs.Spans.{terms_in}
+use Rattle.refusals.specs.Tests.{starts_bad, hazards_bad, discounts_bad, accruals_bad, elapsed_bad, Test, first}
+use Rattle.refusals.specs.declared.Refusal.TheVariants.{Hazard, Discount, Accrual, Periods}
+use Rattle.refusals.proofs.FirstTest.{first_none, first_met, first_passed}
+use Rattle.faults.proofs.Lists.{starts_part, hazards_told, discounts_told, accruals_part, elapsed_part}
+use Rattle.checks.proofs.tree_refusal.Goals as goal
+
+pub starts_bad-requires : goal.starts_bad-requires
+starts_bad-requires c = rw c.part-starts.ensures c.requires.1.1.starts.0
+
+pub returns-then-starts_bad : goal.returns-then-starts_bad
+returns-then-starts_bad c =
+    let X : Terms = terms_in c.args.sheet c.args.numbers.now in
+    let starts : c.starts_bad.result ≡ starts_bad X = c.starts_bad.ensures ∙ starts_part c.args.sheet.pool _ _ _ _ _ _ _ c.part-starts.ensures in
+    sym (first_met _ _ _ (sym starts ∙ c.if-starts_bad.true))
+
+pub returns-then-any_above : goal.returns-then-any_above
+unfolding B
+returns-then-any_above c =
+    let X : Terms = terms_in c.args.sheet c.args.numbers.now in
+    let starts : c.starts_bad.result ≡ starts_bad X = c.starts_bad.ensures ∙ starts_part c.args.sheet.pool _ _ _ _ _ _ _ c.part-starts.ensures in
+    let hazards : c.any_above.result ≡ hazards_bad X = hazards_told X c.part-hazards.ensures c.any_above.ensures in
+    let fine-25 : starts_bad X ≡ false = sym starts ∙ c.if-starts_bad.false in
+    sym (first_passed _ _ _ fine-25 ∙ first_met _ _ _ (sym hazards ∙ c.if-any_above.true))
+
+pub returns-then-any_outside : goal.returns-then-any_outside
+unfolding B
+returns-then-any_outside c =
+    let X : Terms = terms_in c.args.sheet c.args.numbers.now in
+    let starts : c.starts_bad.result ≡ starts_bad X = c.starts_bad.ensures ∙ starts_part c.args.sheet.pool _ _ _ _ _ _ _ c.part-starts.ensures in
+    let hazards : c.any_above.result ≡ hazards_bad X = hazards_told X c.part-hazards.ensures c.any_above.ensures in
+    let discounts : c.any_outside.result ≡ discounts_bad X = let s = c in
+    discounts_told X c.part-discounts.ensures s.requires.1.1.discounts c.any_outside.ensures in
+    let fine-25 : starts_bad X ≡ false = sym starts ∙ c.if-starts_bad.false in
+    let fine-5 : hazards_bad X ≡ false = sym hazards ∙ c.if-any_above.false in
+    let i = c in
+    sym (first_passed _ _ _ fine-25 ∙ first_passed _ _ _ fine-5 ∙ first_met _ _ _ (sym discounts ∙ c.if-any_outside.true))
+
+pub accruals_bad-requires : goal.accruals_bad-requires
+accruals_bad-requires c =
+    let s = c in
+    (s.requires.0.steps.0, s.requires.0.steps.1, ap length c.part-accruals.ensures ∙ s.requires.1.1.accruals)
+
+pub returns-then-accruals_bad : goal.returns-then-accruals_bad
+unfolding B
+returns-then-accruals_bad c =
+    let X : Terms = terms_in c.args.sheet c.args.numbers.now in
+    let starts : c.starts_bad.result ≡ starts_bad X = c.starts_bad.ensures ∙ starts_part c.args.sheet.pool _ _ _ _ _ _ _ c.part-starts.ensures in
+    let hazards : c.any_above.result ≡ hazards_bad X = hazards_told X c.part-hazards.ensures c.any_above.ensures in
+    let discounts : c.any_outside.result ≡ discounts_bad X = let s = c in
+    discounts_told X c.part-discounts.ensures s.requires.1.1.discounts c.any_outside.ensures in
+    let accruals : c.accruals_bad.result ≡ accruals_bad X = c.accruals_bad.ensures ∙ accruals_part c.args.sheet.pool _ _ _ _ _ _ _ c.part-accruals.ensures in
+    let fine-25 : starts_bad X ≡ false = sym starts ∙ c.if-starts_bad.false in
+    let fine-5 : hazards_bad X ≡ false = sym hazards ∙ c.if-any_above.false in
+    let fine-6 : discounts_bad X ≡ false = sym discounts ∙ c.if-any_outside.false in
+    let j = c in
+    let i = j.before in
+    sym (first_passed _ _ _ fine-25 ∙ first_passed _ _ _ fine-5 ∙ first_passed _ _ _ fine-6
+    ∙ first_met _ _ _ (sym accruals ∙ c.if-accruals_bad.true))
+
+pub elapsed_bad-requires : goal.elapsed_bad-requires
+elapsed_bad-requires c =
+    let a = c in
+    let s = c in
+    (ap length a.before.part-accruals.ensures ∙ s.requires.1.1.accruals, ap length c.part-elapsed.ensures ∙ s.requires.1.1.elapsed)
+
+pub returns-then-elapsed_bad : goal.returns-then-elapsed_bad
+unfolding B
+returns-then-elapsed_bad c =
+    let X : Terms = terms_in c.args.sheet c.args.numbers.now in
+    let starts : c.starts_bad.result ≡ starts_bad X = c.starts_bad.ensures ∙ starts_part c.args.sheet.pool _ _ _ _ _ _ _ c.part-starts.ensures in
+    let hazards : c.any_above.result ≡ hazards_bad X = hazards_told X c.part-hazards.ensures c.any_above.ensures in
+    let discounts : c.any_outside.result ≡ discounts_bad X = let s = c in
+    discounts_told X c.part-discounts.ensures s.requires.1.1.discounts c.any_outside.ensures in
+    let accruals : c.accruals_bad.result ≡ accruals_bad X = c.accruals_bad.ensures ∙ accruals_part c.args.sheet.pool _ _ _ _ _ _ _ c.part-accruals.ensures in
+    let elapsed : c.elapsed_bad.result ≡ elapsed_bad X = c.elapsed_bad.ensures
+    ∙ elapsed_part c.args.sheet.pool _ _ _ _ _ _ _ _ c.part-accruals.ensures c.part-elapsed.ensures in
+    let fine-25 : starts_bad X ≡ false = sym starts ∙ c.if-starts_bad.false in
+    let fine-5 : hazards_bad X ≡ false = sym hazards ∙ c.if-any_above.false in
+    let fine-6 : discounts_bad X ≡ false = sym discounts ∙ c.if-any_outside.false in
+    let fine-7 : (l : List Test) → let x = X in first ((starts_bad x, Periods) ∷ (hazards_bad x, Hazard) ∷ (discounts_bad x, Discount) ∷ (accruals_bad x, Accrual) ∷ l) ≡ first l = λ l. let d = c in
+    let a = d.before in
+    first_passed _ _ _ fine-25 ∙ first_passed _ _ _ fine-5 ∙ first_passed _ _ _ fine-6
+    ∙ first_passed _ _ _ (sym accruals ∙ c.if-accruals_bad.false) in
+    sym (fine-7 _ ∙ first_met _ _ _ (sym elapsed ∙ c.if-elapsed_bad.true))
+
+pub returns : goal.returns
+unfolding B
+returns c =
+    let X : Terms = terms_in c.args.sheet c.args.numbers.now in
+    let starts : c.starts_bad.result ≡ starts_bad X = c.starts_bad.ensures ∙ starts_part c.args.sheet.pool _ _ _ _ _ _ _ c.part-starts.ensures in
+    let hazards : c.any_above.result ≡ hazards_bad X = hazards_told X c.part-hazards.ensures c.any_above.ensures in
+    let discounts : c.any_outside.result ≡ discounts_bad X = let s = c in
+    discounts_told X c.part-discounts.ensures s.requires.1.1.discounts c.any_outside.ensures in
+    let accruals : c.accruals_bad.result ≡ accruals_bad X = c.accruals_bad.ensures ∙ accruals_part c.args.sheet.pool _ _ _ _ _ _ _ c.part-accruals.ensures in
+    let elapsed : c.elapsed_bad.result ≡ elapsed_bad X = c.elapsed_bad.ensures
+    ∙ elapsed_part c.args.sheet.pool _ _ _ _ _ _ _ _ c.part-accruals.ensures c.part-elapsed.ensures in
+    let fine-25 : starts_bad X ≡ false = sym starts ∙ c.if-starts_bad.false in
+    let fine-5 : hazards_bad X ≡ false = sym hazards ∙ c.if-any_above.false in
+    let fine-6 : discounts_bad X ≡ false = sym discounts ∙ c.if-any_outside.false in
+    let fine-7 : (l : List Test) → let x = X in first ((starts_bad x, Periods) ∷ (hazards_bad x, Hazard) ∷ (discounts_bad x, Discount) ∷ (accruals_bad x, Accrual) ∷ l) ≡ first l = λ l. let d = c in
+    let a = d.before in
+    first_passed _ _ _ fine-25 ∙ first_passed _ _ _ fine-5 ∙ first_passed _ _ _ fine-6
+    ∙ first_passed _ _ _ (sym accruals ∙ c.if-accruals_bad.false) in
+    sym (fine-7 _ ∙ first_passed _ _ _ (sym elapsed ∙ c.if-elapsed_bad.false) ∙ first_none)

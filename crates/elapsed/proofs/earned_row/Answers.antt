@@ -1,0 +1,42 @@
+-- `elapsed::earned_row` meets its contract. The loop's invariant: the counts passed have their payment.
+use borrow.Author.Rules.{rules}
+use Prim.Native.Nat.{suc, ◌+◌, ◌-◌, ◌≤◌}
+use mathlib.Core.Path.{◌≡◌, sym, ap, ◌∙◌}
+use native.Mathlib.Nat.{le_of_lt}
+use native.Mathlib.Numerals.{add-one}
+use native.Mathlib.Omega.{arith}
+use lib.ListN.{get_or}
+use Rattle.rows.specs.Kernels.{earned_at}
+use Rattle.rows.proofs.Sweep.{Swept, swept_none, swept_more, swept_tab}
+use Rattle.elapsed.proofs.Earned.{earned_before, earned_last}
+use Rattle.elapsed.proofs.earned_row.Goals as goal
+
+pub loop-k-init : goal.loop-k-init
+loop-k-init c = (omega arith, swept_none _ _)
+
+pub elapsed_payment-requires : goal.elapsed_payment-requires
+elapsed_payment-requires c =
+    let i = c in
+    let s = c in
+    let k = i.before.loop-k.k in
+    (s.requires.0, s.requires.1.most k (omega arith), rw (add-one k) (s.requires.1.falls k i.loop-k-test.true))
+
+pub loop-k-preserved : goal.loop-k-preserved
+loop-k-preserved c =
+    let i = c in
+    let s = c in
+    let v = i.before.loop-k.invariant in (
+      omega arith,
+      swept_more _ _ _ _ _ v.1 (omega (arith, v.1.same, s.requires.2))
+          (c.elapsed_payment.ensures ∙ sym (earned_before s.args.names s.args.fraction s.args.outstandings.now i.before.loop-k.k i.loop-k-test.true)),
+    )
+
+pub returns : goal.returns
+returns c =
+    let s = c in
+    let n = s.args.names in
+    let e : c.loop-k.k ≡ n = omega (arith, c.loop-k.invariant.0) in
+    let w : Swept (earned_at n s.args.fraction s.args.outstandings.now) s.args.row.now c.loop-k.row n = rw e at c.loop-k.invariant.1 in
+    swept_tab (suc n)
+    (swept_more _ _ _ _ _ w (omega (arith, w.same, s.requires.2)) (sym (earned_last n s.args.fraction s.args.outstandings.now)))
+    s.requires.2 (add-one n)

@@ -1,0 +1,70 @@
+-- `rooms::forward` meets its contract. A count above the names is told of a row that is only read. An accepted forward leaves a row of n + 1
+use Prim.Native.Nat.{◌+◌, ◌≤◌}
+use mathlib.Core.Path.{refl, ◌≡◌, sym, ap, ◌∙◌}
+use mathlib.Core.Bool.{true≢false}
+use native.Mathlib.Omega.{arith}
+use lib.ListN.{length, take}
+use lib.Seq.{length_front}
+use Rattle.sheet.specs.Brought.{Brought}
+use Rattle.sheet.specs.Spans.{brought_in}
+use Rattle.walk.specs.Answers.{accepted}
+use Rattle.machine.specs.Rooms.{off_tree_said}
+use Rattle.machine.proofs.LentRooms.{part_long, distribution_left, distribution_off, names_few, said_count, said_other}
+use borrow.Author.Rules.{rules}
+use Rattle.rooms.proofs.forward.Goals as goal
+
+pub slice_bounds-judge_forward-end-then-pool-count : goal.slice_bounds-judge_forward-end-then-pool-count
+slice_bounds-judge_forward-end-then-pool-count c =
+    let part : c.forward_size-size.result ≡ length (take c.forward_size-size.result c.args.row.now) = part_long (c.args.sheet.pool.names + 1) 126 _ c.args.row.now c.requires c.forward_size-size.ensures in
+    part
+
+pub returns-then-pool-count : goal.returns-then-pool-count
+returns-then-pool-count c =
+    let sheet : Brought = brought_in c.args.sheet c.args.numbers.now in
+    distribution_off sheet c.args.register.now c.args.row.now c.args.steps c.args.count _ c.forward_size-size.ensures c.requires
+    c.if-pool-count.true
+    (c.off_tree.ensures ∙ ap off_tree_said c.judge_forward-found.ensures)
+
+pub slice_bounds-forward-end-2 : goal.slice_bounds-forward-end-2
+slice_bounds-forward-end-2 c =
+    let part : c.forward_size-size.result ≡ length (take c.forward_size-size.result c.args.row.now) = part_long (c.args.sheet.pool.names + 1) 126 _ c.args.row.now c.requires c.forward_size-size.ensures in
+    part
+
+pub offset_bounds-row-count : goal.offset_bounds-row-count
+offset_bounds-row-count c =
+    let sheet : Brought = brought_in c.args.sheet c.args.numbers.now in
+    let few : c.args.count ≤ 125 = let n : c.args.sheet.pool.names ≤ 125 =
+    names_few sheet c.args.register.now c.args.row.now _ _ c.args.steps c.args.count _ c.forward_size-size.ensures c.requires
+    c.in-Done.ensures.gives refl c.forward-answer.auto.row c.in-Done.ensures.rule in
+    omega (arith, n, c.if-pool-count.false) in
+    omega (arith, few)
+
+pub bounds-row-count : goal.bounds-row-count
+bounds-row-count c =
+    let sheet : Brought = brought_in c.args.sheet c.args.numbers.now in
+    let few : c.args.count ≤ 125 = let n : c.args.sheet.pool.names ≤ 125 =
+    names_few sheet c.args.register.now c.args.row.now _ _ c.args.steps c.args.count _ c.forward_size-size.ensures c.requires
+    c.in-Done.ensures.gives refl c.forward-answer.auto.row c.in-Done.ensures.rule in
+    omega (arith, n, c.if-pool-count.false) in
+    omega (
+      arith,
+      few,
+      c.requires,
+      length_front c.args.row.now c.forward-answer.new.row c.forward_size-size.result c.forward-answer.auto.row,
+    )
+
+pub returns-in-Done : goal.returns-in-Done
+returns-in-Done c =
+    let sheet : Brought = brought_in c.args.sheet c.args.numbers.now in
+    distribution_left sheet c.args.register.now c.args.row.now _ _ c.args.steps c.args.count _ c.forward_size-size.ensures c.requires
+    c.in-Done.ensures.gives
+    (said_count _ _ _ _ refl c.if-pool-count.false)
+    (λ refused. absurd (true≢false refused))
+
+pub returns : goal.returns
+returns c =
+    let sheet : Brought = brought_in c.args.sheet c.args.numbers.now in
+    distribution_left sheet c.args.register.now c.args.row.now _ _ c.args.steps c.args.count _ c.forward_size-size.ensures c.requires
+    c.forward-answer.ensures.gives
+    (c.of_walk.ensures ∙ said_other _ _ _ _ c.in_default.not-Done)
+    (λ refused. c.forward-answer.ensures.rule.leaves (sym (ap accepted c.of_walk.ensures) ∙ refused))

@@ -1,0 +1,16 @@
+-- `tables::payments` meets its contract. The loop's invariant: the tranches passed are filled.
+use Prim.Native.Nat.{ℕ, suc, ◌+◌, ◌-◌, ◌≤◌}
+use lib.ListN.{length}
+use native.Mathlib.Omega.{arith}
+use Rattle.rows.specs.Kernels.{payment_of}
+use Rattle.rows.specs.Rows.{row_of}
+use Rattle.sheet.specs.Terms.{bare}
+use Rattle.rows.proofs.Parts.{Passed, passed_none, passed_tab, passed_all, fits, part_long}
+use Rattle.tables.proofs.payment_rows.Given as goal
+
+abbrev pub invariant-loop-j : goal.invariant-loop-j
+invariant-loop-j l =
+    Passed (suc l.pool.tranches) (suc l.pool.names) (payment_of (bare l.pool l.attachments)) l.initial.table l.table l.j l.a
+
+abbrev pub decreases-loop-j : goal.decreases-loop-j
+decreases-loop-j l = suc l.pool.tranches - l.j

@@ -1,0 +1,52 @@
+-- By what it is refused for; the row is then the distribution.
+use borrow.Author.Rules.{rules}
+use mathlib.Core.Path.{◌≡◌, sym, ◌∙◌}
+use mathlib.Core.List.{List}
+use Prim.Native.Nat.{ℕ}
+use Rattle.forward.proofs.Alike.{hazards_enough}
+use Rattle.sheet.specs.Brought.{Brought}
+use Rattle.sheet.specs.Spans.{brought_in}
+use Rattle.sheet.specs.Limits.{Limits}
+use Rattle.forward.specs.Steps.{HazardsFit}
+use Rattle.refusals.specs.declared.Found.TheVariants.{Fine}
+use Rattle.refusals.specs.Tests.{first}
+use Rattle.sheet.proofs.Limits.{hazard_most, limits_terms}
+use Rattle.walk.specs.Calls.{ForwardOutcome, forward_tests, forward_call}
+use Rattle.walk.specs.CallRules.{ForwardRule}
+use Rattle.walk.specs.OurEngine.{forward_result}
+use Rattle.walk.proofs.OurRules.{forwards}
+use Rattle.walk.proofs.LastChecks.{forward_not, forwarding, forward_done}
+use Rattle.walk.proofs.forward.Goals as goal
+
+-- an outcome that is ours keeps the rule of ours
+gives : (x : Brought) (g q : List ℕ) (i : ℕ) {o : ForwardOutcome} → o ≡ forward_call x g q i → (o ≡ forward_call x g q i) × ForwardRule x g q i (forward_result o)
+gives x g q i e = (e, rw e (forwards x g q i))
+
+-- the hazards of a sheet within limits
+hazards-fit : (x : Brought) → Limits x → HazardsFit x.sheet.names x.sheet.starts x.sheet.hazards
+hazards-fit x m =
+    record {
+      names_most = m.pool.names.1;
+      starts_fit = m.lists.1.starts;
+      long = m.lists.1.hazards;
+      most = hazard_most x.sheet (limits_terms x m);
+    }
+
+pub returns-in-Refused : goal.returns-in-Refused
+returns-in-Refused c = let sheet : Brought = brought_in c.args.sheet c.args.numbers.now in
+    let both = gives _ _ _ _ (forward_not sheet c.args.register.now c.args.row.now c.args.steps (sym c.in-Refused.ensures)) in
+    record { gives = both.0; rule = both.1 }
+
+pub distribute-requires : goal.distribute-requires
+distribute-requires c = let sheet : Brought = brought_in c.args.sheet c.args.numbers.now in
+    let fine : first (forward_tests sheet c.args.register.now c.args.row.now c.args.steps) ≡ Fine = sym c.in_default.ensures in
+    let o = forwarding sheet c.args.register.now c.args.row.now c.args.steps fine in
+    record { row_len = o.lent.row; hazards_fit = rw (c.part-starts.ensures, c.part-hazards.ensures) (hazards-fit sheet o.limits) }
+
+pub returns : goal.returns
+returns c = let sheet : Brought = brought_in c.args.sheet c.args.numbers.now in
+    let fine : first (forward_tests sheet c.args.register.now c.args.row.now c.args.steps) ≡ Fine = sym c.in_default.ensures in
+    let both = gives _ _ _ _
+    (forward_done sheet c.args.register.now c.args.row.now c.args.steps fine _
+    (c.distribute.ensures ∙ hazards_enough sheet.sheet _ _ c.part-starts.ensures c.part-hazards.ensures c.args.steps)) in
+    record { gives = both.0; rule = both.1 }
