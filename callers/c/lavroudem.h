@@ -1,7 +1,7 @@
 /*
  * Lavroudem for C and C++: values tranches of a pool of credits on a tree of
  * default counts. The functions stand in liblavroudem.a, a copy of the
- * libexport.a that `rt staticlib export` writes, for 64-bit x86 Linux.
+ * libexport.a that `rt lib` writes in crates/export, for 64-bit x86 Linux.
  *
  * What holds of every call:
  *

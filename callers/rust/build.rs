@@ -1,5 +1,5 @@
-//! Links the proved archive: the libexport.a that `rt staticlib export` writes,
-//! or a copy of it that is called liblavroudem.a.
+//! Links the proved archive: the libexport.a that `rt lib` writes in
+//! crates/export/out, or a copy of it that is called liblavroudem.a.
 
 use std::env;
 use std::fs;
@@ -15,7 +15,7 @@ fn main() {
         Some(bytes) => own_copy(&bytes),
         None => {
             let folder = folder.display();
-            println!("cargo:warning={folder} has no archive: run `rt staticlib export` first");
+            println!("cargo:warning={folder} has no archive: run `rt lib` in crates/export first");
             // No file has this name, so that no other folder helps out.
             "lavroudem-archive-that-is-missing".to_string()
         }
@@ -33,7 +33,7 @@ fn archive(folder: &Path, name: &str) -> PathBuf {
 fn archive_folder() -> PathBuf {
     match env::var_os("LAVROUDEM_ARCHIVE_DIR") {
         Some(folder) => PathBuf::from(folder),
-        None => PathBuf::from(env!("CARGO_MANIFEST_DIR")).join("../../target/staticlib"),
+        None => PathBuf::from(env!("CARGO_MANIFEST_DIR")).join("../../crates/export/out"),
     }
 }
 

@@ -5,7 +5,7 @@
 //! comment that ends in the place where it must be refused:
 //!
 //! ```text
-//! # one_rounding: the chance is rounded, and then the discount; refused at: proofs/Rolls.antt rolled-entry
+//! # one_rounding: the chance is rounded, and then the discount; refused at: proofs/Rolls.antt rolled_entry
 //! file: specs/Kernels.antt
 //! old: ..
 //! new: ..

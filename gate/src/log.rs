@@ -19,48 +19,57 @@ impl Failed {
         let mut own = self.own.iter();
         own.any(|place| place.0 == file && name.is_none_or(|name| place.1 == name))
     }
+
+    fn add(&mut self, file: &str, name: &str, follows: bool) {
+        let place = (file.to_string(), name.to_string());
+        if !follows {
+            self.own.insert(place.clone());
+        }
+        self.all.insert(place);
+    }
 }
 
-/// Reads the log of a check of a folder that ends in `must-fail/CRATE/LABEL`.
-/// It is no refusal unless it says so.
-pub fn read(log: &str, folder: &str) -> Option<Failed> {
+/// Reads the log of a check in the folder of a crate. It is no refusal unless
+/// it says so.
+pub fn read(log: &str) -> Option<Failed> {
     let mut failed = Failed::default();
     let mut refused = false;
+    let mut open: Vec<&str> = Vec::new();
     for line in log.lines() {
         refused |= line.starts_with("logic=not-proved");
-        if let Some((place, message)) = error(line, folder) {
-            if !follows(message) {
-                failed.own.insert(place.clone());
+        if let Some((file, message)) = error(line) {
+            match unchecked(message) {
+                Some(names) => names.for_each(|name| failed.add(file, name, true)),
+                None => {
+                    let (name, rest) = named(message).unwrap_or(("*", message));
+                    failed.add(file, name, follows(rest));
+                }
             }
-            failed.all.insert(place);
         }
-        if let Some((file, needs)) = no_proof(line, folder) {
-            for need in needs {
-                failed.own.insert((file.clone(), need.clone()));
-                failed.all.insert((file.clone(), need));
+        open.extend(left_open(line));
+        if let Some((function, message)) = function(line) {
+            let needs: Vec<&str> = open.drain(..).chain(quoted_behind(message, "`search` did not prove ")).collect();
+            if message != "proved" {
+                let file = format!("proofs/{function}/Answers.antt");
+                needs.iter().for_each(|need| failed.add(&file, need, false));
+                failed.add(&file, "*", true);
             }
-            failed.all.insert((file, "*".to_string()));
         }
     }
     refused.then_some(failed)
 }
 
-/// What lies behind `PATH/FOLDER/` in a line.
-fn inside<'a>(line: &'a str, folder: &str) -> Option<&'a str> {
-    let (_, rest) = line.split_once(&format!("{folder}/"))?;
-    Some(rest)
+/// `./FILE:LINE:COLUMN: error: ` and a message. Other paths are no files of
+/// the crate.
+fn error(line: &str) -> Option<(&str, &str)> {
+    let (place, message) = line.split_once(": error: ")?;
+    let file = place.strip_prefix("./")?.split(':').next()?;
+    (!place.contains(' ')).then_some((file, message))
 }
 
-/// `PATH/FILE:LINE:COLUMN: error: ` with a name and a message.
-fn error<'a>(line: &'a str, folder: &str) -> Option<(Place, &'a str)> {
-    let (place, message) = line.split_once(": error: ")?;
-    if place.contains(' ') {
-        return None;
-    }
-    let file = inside(place, folder)?.split(':').next()?;
-    let named = message.strip_prefix('`').and_then(|rest| rest.split_once("`: "));
-    let (name, message) = named.unwrap_or(("*", message));
-    Some(((file.to_string(), name.to_string()), message))
+/// A message that starts with what it is about, and the rest.
+fn named(message: &str) -> Option<(&str, &str)> {
+    message.strip_prefix('`')?.split_once("`: ")
 }
 
 /// Whether a message only says that something else failed.
@@ -69,26 +78,34 @@ fn follows(message: &str) -> bool {
     rest.is_some_and(|(_, rest)| rest.starts_with(" was not admitted"))
 }
 
-/// A function whose proof is searched for and not written: the needs left open.
-fn no_proof(line: &str, folder: &str) -> Option<(String, Vec<String>)> {
-    let rest = line.strip_prefix("fn ")?;
-    let (_, rest) = rest.split_once(": no proof: expected `")?;
-    let rest = inside(rest, folder)?;
-    let end = rest.find([';', ' ']).unwrap_or(rest.len());
-    let (file, rest) = rest.split_at(end);
-    let needs = match rest.split_once("`search` does not close ") {
-        Some((_, list)) => quoted(list),
-        None => Vec::new(),
-    };
-    Some((file.to_string(), needs))
+/// What was not checked, since it depends on what failed.
+fn unchecked(message: &str) -> Option<impl Iterator<Item = &str>> {
+    let (count, rest) = message.split_once(" declaration")?;
+    let (_, names) = rest.split_once(", which was rejected, w")?.1.split_once(" not checked: ")?;
+    count.parse::<usize>().ok()?;
+    Some(names.split(", "))
 }
 
-/// The words of a list such as `` `a`, `b` and no more``.
-fn quoted(list: &str) -> Vec<String> {
+/// The need of the next function that is told, where it stays open.
+fn left_open(line: &str) -> Option<&str> {
+    let (_, rest) = line.strip_prefix("note: ")?.split_once(": it is not proved that ")?;
+    let (_, rest) = rest.split_once(" (`")?;
+    Some(rest.split_once("`)")?.0)
+}
+
+/// `fn CRATE::FUNCTION: ` with the function's folder and what is said of it.
+fn function(line: &str) -> Option<(String, &str)> {
+    let (path, message) = line.strip_prefix("fn ")?.split_once(": ")?;
+    let (_, function) = path.split_once("::")?;
+    Some((function.replace("::", "/"), message))
+}
+
+/// The words of a list such as `` `a`, `b` and no more`` behind some text.
+fn quoted_behind<'a>(message: &'a str, text: &str) -> Vec<&'a str> {
+    let mut rest = message.split_once(text).map_or("", |(_, rest)| rest);
     let mut words = Vec::new();
-    let mut rest = list;
     while let Some((word, behind)) = rest.strip_prefix('`').and_then(|rest| rest.split_once('`')) {
-        words.push(word.to_string());
+        words.push(word);
         rest = behind.strip_prefix(", ").unwrap_or("");
     }
     words

@@ -1,13 +1,14 @@
-//! Batches tried in other company: each edit alone, or each batch without it.
+//! Batches tried: as they stand, each edit alone, or each batch without it.
 
+use crate::batch::Edit;
 use crate::{batch, log};
-use std::os::unix::fs::symlink;
 use std::path::{Path, PathBuf};
 use std::process::Command;
-use std::{env, fs, io};
+use std::{env, fs, io, process};
 
 #[derive(Clone, Copy, PartialEq)]
 pub enum Manner {
+    Together,
     Alone,
     Without,
 }
@@ -37,56 +38,91 @@ pub fn crate_and_label(path: &Path) -> (String, String) {
 
 /// The faults of the batches of some crates, tried in a manner.
 pub fn tried(crates: &[&str], manner: Manner) -> Result<Vec<String>, String> {
+    let told = |error: io::Error| format!("a copy of the crates: {error}");
+    let room = Room::new(Path::new(".")).map_err(told)?;
     let mut faults = Vec::new();
-    for name in crates {
-        let edits = lay_out(name, manner).map_err(|error| format!("target/alone: {error}"))?;
-        let status = Command::new("rt").args(["must-fail", name]).current_dir("target/alone").status();
-        let status = status.map_err(|error| format!("rt: {error}"))?;
-        println!("edits: {name}: {} tried", edits.len());
-        if !status.success() {
-            faults.push(format!("{name}: `rt must-fail` ended with {status}"));
+    for path in files(Path::new("crates"))? {
+        let (name, label) = crate_and_label(&path);
+        let text = fs::read_to_string(&path).map_err(|error| format!("{}: {error}", path.display()))?;
+        if !crates.contains(&name.as_str()) || !batch::is_batch(&text) {
+            continue;
         }
-        faults.extend(edits.iter().filter_map(|edit| fault(name, edit, manner)));
+        let edits = batch::parse(&text).map_err(|error| format!("{}: {error}", path.display()))?;
+        let trials: Vec<(&[Edit], Vec<&Edit>)> = match manner {
+            Manner::Together => vec![(&edits, edits.iter().collect())],
+            Manner::Alone => edits.iter().map(|edit| (std::slice::from_ref(edit), vec![edit])).collect(),
+            Manner::Without => {
+                let without = |edit: &Edit| edits.iter().filter(|other| other.label != edit.label).collect();
+                edits.iter().map(|edit| (std::slice::from_ref(edit), without(edit))).collect()
+            }
+        };
+        for (held, made) in trials {
+            let log = room.check(&name, &made).map_err(told)?;
+            faults.extend(faults_of(&log, held, manner).iter().map(|fault| format!("{name}/{label}: {fault}")));
+        }
+        println!("edits: {name}/{label}: {} tried", edits.len());
     }
     Ok(faults)
 }
 
-/// A copy of the repository over its proved crates, in which the edits of one
-/// crate's batches stand each in a file of its own.
-fn lay_out(name: &str, manner: Manner) -> io::Result<Vec<batch::Edit>> {
-    let top = Path::new("target/alone");
-    let _ = fs::remove_dir_all(top);
-    copy(Path::new("crates"), &top.join("crates"))?;
-    fs::copy("crates.txt", top.join("crates.txt"))?;
-    fs::create_dir_all(top.join("target"))?;
-    for part in ["rlib", "stamp"] {
-        symlink(env::current_dir()?.join("target").join(part), top.join("target").join(part))?;
-    }
-    let folder = top.join("crates").join(name).join("must-fail");
-    fs::create_dir_all(&folder)?;
-    let mut all = Vec::new();
-    for path in files(Path::new("crates")).map_err(io::Error::other)? {
-        let text = fs::read_to_string(&path)?;
-        if crate_and_label(&path).0 != name || !batch::is_batch(&text) {
-            continue;
+/// What is wrong with edits that were tried: each must be refused at its place;
+/// without it that place must not fail.
+fn faults_of(log: &str, held: &[Edit], manner: Manner) -> Vec<String> {
+    let failed = log::read(log);
+    let fault = |edit: &Edit| {
+        let there = failed.as_ref().is_some_and(|failed| failed.by_itself(&edit.file, edit.name.as_deref()));
+        let place = format!("{} {}", edit.file, edit.name.as_deref().unwrap_or(""));
+        match manner {
+            Manner::Together if !there => Some(format!("{}: no error of its own at {place}", edit.label)),
+            Manner::Alone if !there => Some(format!("{}: alone it is not refused at {place}", edit.label)),
+            Manner::Without if there => Some(format!("{}: without it the others are refused at {place}", edit.label)),
+            _ => None,
         }
-        let edits = batch::parse(&text).map_err(io::Error::other)?;
-        for edit in &edits {
-            let kept = edits.iter().filter(|e| (e.label == edit.label) == (manner == Manner::Alone));
-            fs::write(folder.join(format!("{}.edit", edit.label)), kept.map(text_of).collect::<String>())?;
-        }
-        all.extend(edits);
-    }
-    Ok(all)
+    };
+    held.iter().filter_map(fault).collect()
 }
 
-/// An edit as a file of its own says it.
-fn text_of(edit: &batch::Edit) -> String {
-    let lines = |pair: &batch::Pair| format!("file: {}\nold: {}\nnew: {}\n", pair.file, pair.old, pair.new);
-    edit.pairs.iter().map(lines).collect()
+/// A copy of the crates in which edits are made. It lies outside of the
+/// repository, since `rt ci` refuses code there that is no crate's.
+struct Room {
+    top: PathBuf,
+    crates: PathBuf,
 }
 
-/// Copies a folder, but for edits.
+impl Room {
+    fn new(root: &Path) -> io::Result<Room> {
+        let top = env::temp_dir().join(format!("lavroudem-edits-{}", process::id()));
+        fs::create_dir(&top)?;
+        let room = Room { top, crates: root.join("crates") };
+        copy(&room.crates, &room.top.join("crates"))?;
+        fs::copy(root.join("crates.txt"), room.top.join("crates.txt"))?;
+        Ok(room)
+    }
+
+    /// The log of the check of a crate with some edits.
+    fn check(&self, name: &str, edits: &[&Edit]) -> io::Result<String> {
+        let [from, to] = [&self.crates, &self.top.join("crates")].map(|crates| crates.join(name));
+        let pairs = || edits.iter().flat_map(|edit| &edit.pairs);
+        for pair in pairs() {
+            let text = fs::read_to_string(to.join(&pair.file))?;
+            fs::write(to.join(&pair.file), text.replacen(&pair.old, &pair.new, 1))?;
+        }
+        let ran = Command::new("rt").arg("check").current_dir(&to).output()?;
+        for pair in pairs() {
+            fs::copy(from.join(&pair.file), to.join(&pair.file))?;
+        }
+        let [told, said] = [ran.stdout, ran.stderr].map(|bytes| String::from_utf8_lossy(&bytes).into_owned());
+        Ok(told + &said)
+    }
+}
+
+impl Drop for Room {
+    fn drop(&mut self) {
+        let _ = fs::remove_dir_all(&self.top);
+    }
+}
+
+/// Copies a folder, but for edits and what `rt` made.
 fn copy(from: &Path, to: &Path) -> io::Result<()> {
     fs::create_dir_all(to)?;
     for entry in fs::read_dir(from)? {
@@ -94,24 +130,9 @@ fn copy(from: &Path, to: &Path) -> io::Result<()> {
         let target = to.join(entry.file_name());
         if !entry.file_type()?.is_dir() {
             fs::copy(entry.path(), target)?;
-        } else if entry.file_name() != "must-fail" {
+        } else if entry.file_name() != "must-fail" && entry.file_name() != "out" {
             copy(&entry.path(), &target)?;
         }
     }
     Ok(())
-}
-
-/// What is wrong with an edit that was tried: alone it must be refused at its
-/// place; without it that place must not fail.
-fn fault(name: &str, edit: &batch::Edit, manner: Manner) -> Option<String> {
-    let folder = format!("must-fail/{name}/{}", edit.label);
-    let text = fs::read_to_string(Path::new("target/alone/target").join(&folder).join(".log"));
-    let failed = log::read(&text.unwrap_or_default(), &folder);
-    let there = failed.is_some_and(|failed| failed.by_itself(&edit.file, edit.name.as_deref()));
-    let place = format!("{} {}", edit.file, edit.name.as_deref().unwrap_or(""));
-    match manner {
-        Manner::Alone if !there => Some(format!("{name}/{}: alone it is not refused at {place}", edit.label)),
-        Manner::Without if there => Some(format!("{name}/{}: without it the others are refused at {place}", edit.label)),
-        _ => None,
-    }
 }

@@ -215,11 +215,11 @@ fn table_of_definitions_is_whole() {
 /// Names of the kit's libraries that a definition brings in, without the
 /// places of their operands.
 fn kit_names(text: &str) -> Vec<&str> {
-    let kits = ["use Prim.", "use mathlib.", "use lib."];
+    let kits = ["use Rattle.std.", "use Rattle.core.", "use Prim.", "use mathlib.", "use lib."];
     let brought = text.lines().filter(|line| kits.iter().any(|kit| line.starts_with(kit)));
     let lists = brought.map(|line| line.split_once(".{").unwrap().1.strip_suffix('}').unwrap());
     let names = lists.flat_map(|list| list.split(", "));
-    names.map(|name| name.trim_matches('_')).collect()
+    names.map(|name| name.trim_matches(['_', '◌'])).collect()
 }
 
 /// What the kit means by a name must be believed too, so the page has them all.

@@ -1,4 +1,4 @@
-//! The program `listing` as its check has left it: how it takes its input.
+//! The program `listing` as `rt` has left it: how it takes its input.
 #![cfg(feature = "engine")]
 
 use std::io::Write;
@@ -11,7 +11,7 @@ const WORKED_DECK: &[u8] = include_bytes!("../../crates/listing/stdin");
 const WORKED_LISTING: &[u8] = include_bytes!("../../crates/listing/stdout");
 
 fn listing() -> Command {
-    let program = Path::new(env!("CARGO_MANIFEST_DIR")).join("../target/bin/listing");
+    let program = Path::new(env!("CARGO_MANIFEST_DIR")).join("../crates/listing/out/listing");
     let mut command = Command::new(program);
     command.stdout(Stdio::piped()).stderr(Stdio::piped());
     command

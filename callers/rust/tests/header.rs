@@ -228,7 +228,8 @@ fn every_exported_struct_is_declared() {
     assert_eq!(defined.count(), structs.len());
 }
 
-/// The sources of the engine, each with the name of its crate.
+/// The sources of the engine, each with the name of its crate. What a struct
+/// derives plays no part.
 fn sources() -> Vec<(String, String)> {
     let crates = Path::new(env!("CARGO_MANIFEST_DIR")).join("../../crates");
     let mut sources = Vec::new();
@@ -240,7 +241,8 @@ fn sources() -> Vec<(String, String)> {
         };
         for file in files {
             let text = fs::read_to_string(file.unwrap().path()).unwrap();
-            sources.push((name.clone(), text));
+            let lines = text.lines().filter(|line| !line.starts_with("#[derive("));
+            sources.push((name.clone(), lines.collect::<Vec<_>>().join("\n")));
         }
     }
     sources

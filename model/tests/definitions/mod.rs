@@ -134,11 +134,9 @@ impl Imports {
     }
 }
 
-/// `walk/specs/Calls.antt` for `Rattle·walk.specs.Calls`, as others name it, or
-/// `Rattle·walk·specs.specs.Calls`, as it is named at home.
+/// `walk/specs/Calls.antt` for `Rattle.walk.specs.Calls`.
 fn file_of(module: &str) -> Option<String> {
-    let (home, name) = module.strip_prefix("Rattle·")?.split_once(".specs.")?;
-    let home = home.trim_end_matches("·specs");
+    let (home, name) = module.strip_prefix("Rattle.")?.split_once(".specs.")?;
     (!name.contains('.')).then(|| format!("{home}/specs/{name}.antt"))
 }
 
