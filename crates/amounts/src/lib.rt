@@ -17,7 +17,7 @@ pub struct Amount {
 }
 
 // A number, and whether it is below 0.
-#[derive(Drop)]
+#[derive(Clone, Copy)]
 pub struct Figure {
     pub below: bool,
     pub size: Amount,

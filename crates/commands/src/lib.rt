@@ -6,7 +6,7 @@ ghost use Rattle.std.specs.Prelude.{◌≡◌, ◌+◌, ◌≤◌, ◌<◌, ◌^
 ghost use Rattle.commands.specs.Commands.{low_first, operands, decoded, is_command, command_at, entry_size, order_size};
 
 // Commands 01 to 05 and 0D, which add to the sheet and print nothing.
-#[derive(Drop)]
+#[derive(Clone, Copy)]
 pub enum Entry {
     Pool {
         names: usize,
@@ -27,7 +27,7 @@ pub enum Entry {
 }
 
 // Commands 06 to 0C, which print a line.
-#[derive(Drop)]
+#[derive(Clone, Copy)]
 pub enum Order {
     Issue(u8),
     Withdraw(u8),
@@ -39,7 +39,7 @@ pub enum Order {
 }
 
 // A command with its operands, or why none can be read: refusal 18 or 19.
-#[derive(Drop)]
+#[derive(Clone, Copy)]
 pub enum Command {
     Enter(Entry),
     Act(Order),

@@ -23,7 +23,7 @@ pub fn net_value(d: u64, coupon: u64, a: u64) -> i64
 }
 
 // The figures of a tranche at a node: its loss M, default leg D and premium leg A.
-#[derive(Drop)]
+#[derive(Clone, Copy)]
 pub struct Node {
     pub loss: u64,
     pub default: u64,
@@ -66,7 +66,7 @@ pub fn unlike_signs(x: i64, y: i64) -> bool
 }
 
 // A hedge ratio, or why there is none.
-#[derive(Drop)]
+#[derive(Clone, Copy)]
 pub enum Hedge {
     Millionths(i64),
     // 15, flat hedge: the index does not jump

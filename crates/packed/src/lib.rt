@@ -23,7 +23,7 @@ pub enum Reading {
 }
 
 // What writing answers.
-#[derive(Drop)]
+#[derive(Clone, Copy)]
 pub enum Writing {
     // 0
     Written,

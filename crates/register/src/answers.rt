@@ -1,6 +1,6 @@
 // What the register says of a number, and what a call that writes it answers.
 
-#[derive(Drop)]
+#[derive(Clone, Copy)]
 pub enum Status {
     Unissued,
     Live,
@@ -8,7 +8,7 @@ pub enum Status {
 }
 
 // A refusal's comment has its number and word in document 01, as `number_of` of specs/Register.antt gives it.
-#[derive(Drop)]
+#[derive(Clone, Copy)]
 pub enum WriteAnswer {
     // 0: the call was accepted and has written its byte.
     Accepted,

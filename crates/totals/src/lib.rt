@@ -18,14 +18,14 @@ const NOMINAL_MOST: u64 = 1_000_000;
 const VALUE_MOST: u64 = 200_000_000_000_000_000;
 
 // Gains and losses so far, both without a sign; the units may be more than a billion.
-#[derive(Drop)]
+#[derive(Clone, Copy)]
 pub struct Sums {
     pub gains: Amount,
     pub losses: Amount,
 }
 
 // The three figures of a book.
-#[derive(Drop)]
+#[derive(Clone, Copy)]
 pub struct Totals {
     pub total: Figure,
     pub gains: Figure,
