@@ -7,12 +7,10 @@ use borrow.Author.Tests.{eq-eqb}
 use lib.Dec.{ltb}
 use Rattle.rows.specs.Rows.{soiled, Rows}
 use Rattle.register.specs.declared.answers.Status.{Status}
-use Rattle.register.specs.declared.answers.Status.TheVariants as Status
 use Rattle.register.specs.Register.{status_in}
 use Rattle.sheet.specs.declared.Pool.{Pool}
 use Rattle.sheet.specs.Brought.{Brought, brought}
 use Rattle.refusals.specs.declared.Refusal.{Refusal}
-use Rattle.refusals.specs.declared.Refusal.TheVariants as Refusal
 use Rattle.refusals.specs.declared.Found.{Found}
 use Rattle.refusals.specs.declared.Found.TheVariants.{Fine, Refused}
 use Rattle.refusals.specs.Tests.{Test, first, pool_bad, sheet_tests}

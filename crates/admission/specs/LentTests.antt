@@ -1,7 +1,6 @@
 -- The checks 1 to 12 as tests: the sheet's own, then what is lent beside it, the register, the walk and its rows (document 01, 'Refusals in order').
 use Rattle.std.specs.Prelude.{ℕ, ◌+◌, Bool, true, false, not, ◌||◌, List, ◌∷◌, length, ltb}
 use Rattle.register.specs.declared.answers.Status.{Status}
-use Rattle.register.specs.declared.answers.Status.TheVariants as Status
 use Rattle.register.specs.Register.{status_in}
 use Rattle.sheet.specs.Brought.{Brought}
 use Rattle.rows.specs.Rows.{Rows, row_length, soiled}

@@ -12,7 +12,7 @@ ghost use Rattle.book.specs.Promise.{BookRule, reported_by};
 use totals::Totals;
 
 // What the call answers.
-#[derive(Drop)]
+#[derive(Clone, Copy)]
 pub enum Report {
     // 0, and the bytes of the line
     Written(usize),

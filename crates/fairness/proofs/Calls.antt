@@ -1,11 +1,11 @@
 -- Over every list of calls our call takes one step off for each turn, and is fair.
-use Prim.Native.Nat.{ℕ, zero, suc, ◌+◌, ◌-◌, ◌≤◌, ◌<◌}
+use Prim.Native.Nat.{ℕ, suc, ◌+◌, ◌<◌}
 use mathlib.Core.Path.{◌≡◌, refl, sym, ap, ◌∙◌}
 use mathlib.Core.Logic.{◌≢◌}
 use mathlib.Core.Bool.{Bool, true, false}
 use mathlib.Core.List.{List, [], ◌∷◌, ◌++◌}
 use native.Mathlib.Omega.{arith}
-use lib.ListN.{length, get_or, take, drop}
+use lib.ListN.{length, get_or, drop}
 use lib.Seq.{take_at}
 use Rattle.walk.specs.declared.Walk.{Walk}
 use Rattle.places.specs.Places.{Stretch, turns_of, taken, Outcome, served}
@@ -13,8 +13,8 @@ use Rattle.places.proofs.Partway.{served_refused, served_taken, served_length}
 use Rattle.rounds.specs.Rounds.{turns_at}
 use Rattle.rounds.proofs.Turns.{at_none, at_append, at_other, fair_turns, split_places, turns_add, turns_zero}
 use Rattle.turns.specs.declared.Turn.{Turn}
-use Rattle.turns.specs.Table.{steps_of, with_steps, with_left}
-use Rattle.turns.specs.Turns.{turned, on_table}
+use Rattle.turns.specs.Table.{steps_of, with_steps}
+use Rattle.turns.specs.Turns.{on_table}
 use Rattle.turns.proofs.Copies.{length_steps}
 use Rattle.fairness.specs.Promise.{Result, Call, table_of, named_in, called_on, named, left_by, HasLeft, Fair, TakesOff, Keeps, result_of, ours}
 use Rattle.fairness.proofs.Promise.{our_rule}

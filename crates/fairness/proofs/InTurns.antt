@@ -147,16 +147,16 @@ module _ (e : Engine) (rules : Rules e) (u : Run) (y h : ℕ) (w : Walked e u y 
             let still : c ≡ c + 0 = omega arith in
             (0, omega arith, rw (ne_eqb place turn.place s) (subst (λ (n : ℕ). After n (walks place)) still a))
 
-  after_turns : (walks : ℕ → Standing) (turns : List WalkedTurn) (place c : ℕ) → After c (walks place) → LiveAt y place turns →
+  turns_on : (walks : ℕ → Standing) (turns : List WalkedTurn) (place c : ℕ) → After c (walks place) → LiveAt y place turns →
       h + c + turns_had place turns ≤ x.sheet.steps → After (c + turns_had place turns) (after_turns e walks turns place)
-  after_turns walks [] place c a live far =
+  turns_on walks [] place c a live far =
       let still : c ≡ c + turns_had place [] = omega (arith, at_none place) in
       subst (λ (n : ℕ). After n (walks place)) still a
-  after_turns walks (turn ∷ turns) place c a live far =
+  turns_on walks (turn ∷ turns) place c a live far =
       let (d, count, stands) = turn_on walks turn turns place c a live far in
       let all : c + d + turns_had place turns ≡ c + turns_had place (turn ∷ turns) = omega arith in
       subst (λ (n : ℕ). After n (after_turns e (after_turn e walks turn) turns place)) all
-      (after_turns (after_turn e walks turn) turns place (c + d) stands live.1 (omega arith))
+      (turns_on (after_turn e walks turn) turns place (c + d) stands live.1 (omega arith))
 
   -- ---- from where it stands
 
@@ -171,7 +171,7 @@ module _ (e : Engine) (rules : Rules e) (u : Run) (y h : ℕ) (w : Walked e u y 
     stood : h + had ≤ x.sheet.steps → After had (after_turns e walks turns place)
     stood far =
         let all : 0 + had ≡ had = omega arith in
-        subst (λ (n : ℕ). After n (after_turns e walks turns place)) all (after_turns walks turns place 0 started live (omega arith))
+        subst (λ (n : ℕ). After n (after_turns e walks turns place)) all (turns_on walks turns place 0 started live (omega arith))
 
     goes_on : (c : ℕ) → h + had + c ≤ x.sheet.steps →
         (back_of e register (after_turns e walks turns place) c).said ≡ says (pos (x.sheet.steps - (h + had + c)) ∷ [])

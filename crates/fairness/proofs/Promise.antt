@@ -1,27 +1,22 @@
 -- Our call keeps to the rule, and no other function keeps the promise. That ours keeps all of it: Calls.antt.
-use Prim.Native.Nat.{ℕ, zero, suc, ◌+◌, ◌-◌, ◌≤◌, ◌<◌}
+use Prim.Native.Nat.{ℕ, zero, suc, ◌≤◌, ◌<◌}
 use mathlib.Core.Path.{◌≡◌, refl, sym, ap, ◌∙◌, subst}
-use mathlib.Core.Logic.{◌≢◌}
-use mathlib.Core.Bool.{Bool, true, false, ◌||◌, true≢false}
+use mathlib.Core.Bool.{Bool, true, false, true≢false}
 use mathlib.Core.List.{List, [], ◌∷◌, ◌++◌}
 use native.Mathlib.Omega.{arith}
-use lib.ListN.{length, get_or, set, take, drop, length-set}
-use lib.Seq.{take_at}
-use lib.Dec.{ltb}
-use borrow.Author.Tests.{ltb-true, ltb-false}
-use Rattle.walk.specs.declared.Walk.{Walk}
-use Rattle.places.specs.Places.{chosen, one_off, Stretch, turns_of, any_over, taken, Outcome, as_lent, fills, served}
-use Rattle.places.proofs.Laws.{over_hit, over_miss, turns_stop, turns_go, Fine, fine, is_taken}
-use Rattle.places.proofs.Partway.{served_refused, served_taken, served_length, chosen_some}
-use Rattle.rounds.specs.Rounds.{ahead, turns_at}
+use lib.ListN.{length, get_or, drop, length-set}
+use Rattle.places.specs.Places.{chosen, one_off, Stretch, turns_of, any_over, taken, Outcome, served}
+use Rattle.places.proofs.Laws.{over_hit, over_miss, turns_stop, turns_go, fine, is_taken}
+use Rattle.places.proofs.Partway.{served_refused, served_taken, chosen_some}
+use Rattle.rounds.specs.Rounds.{ahead}
 use Rattle.rounds.proofs.Cycle.{Cmp, below, above, cmp, ahead_tells}
-use Rattle.rounds.proofs.Turns.{at_none, at_append, at_other, chosen_first, chosen_none_left, fair_turns, then, split_places, turns_add, turns_zero}
+use Rattle.rounds.proofs.Turns.{chosen_first, chosen_none_left, turns_zero}
 use Rattle.turns.specs.declared.Turn.{Turn}
-use Rattle.turns.specs.Table.{steps_of, with_steps, with_left}
-use Rattle.turns.specs.Turns.{Leaves, on_table, turned}
+use Rattle.turns.specs.Table.{steps_of, with_steps}
+use Rattle.turns.specs.Turns.{on_table}
 use Rattle.turns.proofs.Copies.{length_steps, with_own}
-use Rattle.fairness.specs.Promise.{Result, Server, Taken, IsNext, InTurn, Serves, refuses, TurnsRule, Call, table_of, named_in, called_on, named}
-use Rattle.fairness.specs.Promise.{left_by, HasLeft, Fair, TakesOff, Keeps, result_of, ours}
+use Rattle.fairness.specs.Promise.{Result, Server, Taken, IsNext, InTurn, Serves, refuses, TurnsRule}
+use Rattle.fairness.specs.Promise.{Keeps, result_of, ours}
 
 -- ---- what 29 leaves
 

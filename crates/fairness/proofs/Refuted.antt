@@ -1,13 +1,13 @@
 -- No wrong server keeps the promise: each tells or leaves something else than ours at the call named.
-use Prim.Native.Nat.{ℕ, zero, suc, ◌+◌, ◌<◌}
+use Prim.Native.Nat.{ℕ, zero, suc, ◌<◌}
 use mathlib.Core.Path.{◌≡◌, refl, sym, ap, ◌∙◌}
 use mathlib.Core.Logic.{◌≢◌}
-use mathlib.Core.Bool.{Bool, true, false, cond, not, ◌&&◌}
+use mathlib.Core.Bool.{Bool, true, false, cond}
 use mathlib.Core.List.{List, [], ◌∷◌, ◌++◌}
 use native.Mathlib.Omega.{arith}
 use lib.Dec.{ltb}
 use borrow.Author.Tests.{lt-ltb, le-ltb, le-leb, lt-leb}
-use lib.ListN.{length, get_or, drop, replicate}
+use lib.ListN.{length, get_or, replicate}
 use Rattle.walk.specs.declared.Walk.{Walk}
 use Rattle.places.specs.Places.{next_place, first_of, chosen, Stretch, rests, turn_then, one_off, turns_of, any_over, taken, served}
 use Rattle.places.proofs.Laws.{taken_empty, taken_long, taken_outside, taken_over, taken_room}
@@ -15,7 +15,7 @@ use Rattle.rounds.specs.Rounds.{turns_at}
 use Rattle.rounds.proofs.Cycle.{Cmp, below, above, cmp}
 use Rattle.turns.specs.declared.Turn.{Turn}
 use Rattle.turns.specs.Table.{steps_of, with_steps, fresh}
-use Rattle.fairness.specs.Promise.{Result, Server, refuses, Call, table_of, named, left_by, HasLeft, Fair, TakesOff, Keeps, ours}
+use Rattle.fairness.specs.Promise.{Result, Server, refuses, Call, table_of, named, HasLeft, Fair, Keeps, ours}
 use Rattle.fairness.specs.Refuted.{all_off, all_refused, at_the_end, count_as_number, downwards, empty_list_refused, empty_taken}
 use Rattle.fairness.specs.Refuted.{steps_limit_less, fifteen_most, first_served, from_itself, from_one, last_place_refused, list_cut}
 use Rattle.fairness.specs.Refuted.{longer_list_taken, longest_first, lowest_first, steps_limit_more, none_off, none_refused, none_refuses}

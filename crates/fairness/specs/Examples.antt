@@ -1,5 +1,5 @@
 -- Calls for turns written out. Proved in proofs/Examples.antt, by computation.
-use Rattle.std.specs.Prelude.{ℕ, zero, suc, ◌+◌, ◌≡◌, Bool, true, false, List, [], ◌∷◌, replicate}
+use Rattle.std.specs.Prelude.{ℕ, zero, suc, ◌+◌, ◌≡◌, true, false, List, [], ◌∷◌, replicate}
 use Rattle.turns.specs.declared.Turn.{Turn}
 use Rattle.fairness.specs.Promise.{Call, named, left_by, ours}
 

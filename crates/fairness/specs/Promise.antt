@@ -1,6 +1,6 @@
 -- The promise of turns among walks (T-11), of any function in the place of the call: `Keeps`.
 -- A walk stands at a place of the table, counted from 0. What the table holds of it is its walk record and its steps left.
-use Rattle.std.specs.Prelude.{ℕ, zero, suc, ◌+◌, ◌≤◌, ◌<◌, ◌≡◌, ◌≢◌, List, [], ◌∷◌, ◌++◌, length, get_or, take, drop}
+use Rattle.std.specs.Prelude.{ℕ, suc, ◌+◌, ◌≤◌, ◌<◌, ◌≡◌, ◌≢◌, List, [], ◌∷◌, ◌++◌, length, get_or, take, drop}
 use Rattle.walk.specs.declared.Walk.{Walk}
 use Rattle.places.specs.Places.{one_off, turned_number, turned_values, place_after}
 use Rattle.rounds.specs.Rounds.{ahead, turns_at}

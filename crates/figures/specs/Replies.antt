@@ -1,7 +1,6 @@
 -- What value and hedge ratio answer of what they read.
 use Rattle.std.specs.Prelude.{ℕ, get_or}
 use Rattle.hedges.specs.declared.Hedge.{Hedge}
-use Rattle.hedges.specs.declared.Hedge.TheVariants as Hedge
 use Rattle.hedges.specs.Hedges.{net_value}
 use Rattle.sheet.specs.Brought.{Brought}
 use Rattle.rows.specs.Rows.{Rows, node_in}

@@ -1,9 +1,9 @@
 -- A deck whose orders meet no fraction but 0 prints and leaves what it did: its rows keep to the earlier ceiling wherever 12 is asked.
-use Prim.Native.Nat.{ℕ, zero, suc, ◌+◌, ◌-◌, ◌*◌, ◌≤◌, ◌<◌, min, zero-le}
+use Prim.Native.Nat.{ℕ, zero, suc, ◌+◌, ◌-◌, ◌*◌, ◌≤◌, ◌<◌, min}
 use mathlib.Core.Path.{◌≡◌, refl, sym, ap, ◌∙◌, subst}
 use mathlib.Core.Bool.{Bool, true, false, not, ◌&&◌, ◌||◌, true≢false, false≢true}
 use mathlib.Core.List.{List, [], ◌∷◌, ◌++◌}
-use native.Mathlib.Nat.{add-zero, le_of_eq}
+use native.Mathlib.Nat.{le_of_eq}
 use native.Mathlib.Omega.{arith}
 use native.Mathlib.Decide.{dec_le}
 use borrow.Author.Tests.{le-leb, lt-leb, eqb-false}
@@ -18,7 +18,7 @@ use Rattle.commands.specs.declared.Entry.TheVariants.{Pool, Attachment, Hazard, 
 use Rattle.commands.specs.declared.Order.{Order}
 use Rattle.commands.specs.declared.Order.TheVariants.{Issue, Withdraw, Open, Back, Value, Delta, Forward}
 use Rattle.commands.specs.Commands.{operands, commands, decoded, pick, is_command, command_at}
-use Rattle.sheet.specs.Terms.{Terms, sum_of}
+use Rattle.sheet.specs.Terms.{Terms}
 use Rattle.sheet.specs.Brought.{Brought}
 use Rattle.sheet.specs.Limits.{TermsWithin, Limits}
 use Rattle.sheet.proofs.Limits.{limits_terms}
@@ -33,7 +33,7 @@ use Rattle.refusals.specs.declared.Found.{Found}
 use Rattle.refusals.specs.declared.Found.TheVariants.{Fine, Refused}
 use Rattle.refusals.specs.Tests.{pool_bad, first}
 use Rattle.refusals.proofs.Meanings.{pool_fine}
-use Rattle.entries.specs.Draft.{Draft, empty_draft, fractions, has_room, added}
+use Rattle.entries.specs.Draft.{Draft, fractions, has_room, added}
 use Rattle.entries.specs.DatesOnly.{NoFractions, enters_fraction}
 use Rattle.entries.proofs.OnePeriod.{one_period}
 use Rattle.entries.proofs.DatesOnly.{dates_only_lem}
@@ -49,13 +49,12 @@ use Rattle.walk.proofs.Ordering.{over_fine, open_stands, open_holds, back_stands
 use Rattle.walk.proofs.Walking.{zeros_full, zeros_premium}
 use Rattle.walk.proofs.DatesOnly.{zeros_elapsed, calls_by_zeros}
 use Rattle.machine.specs.Machine.{Machine, machine_on}
-use Rattle.machine.specs.Rooms.{lent_rows, left_in_rooms, open_in_rooms, back_in_rooms, value_in_rooms, ratio_in_rooms}
+use Rattle.machine.specs.Rooms.{lent_rows, open_in_rooms, back_in_rooms, value_in_rooms, ratio_in_rooms}
 use Rattle.machine.specs.Transitions.{transition_of}
 use Rattle.listings.specs.Effects.{go_on, with_draft, effect_of}
 use Rattle.listings.specs.Manners.{manner_transition}
 use Rattle.listings.specs.DatesOnly.{HasZeros, OrderMeets, MeetsZeros, ZerosFrom, earlier_command_at, command_size, enters_none, DecksByDates}
 use Rattle.listings.proofs.Manners.{ordered, Along, listed, registered, entered_kept, goes_on}
-use Rattle.listings.proofs.OnePeriod.{One, one_after, one_entered}
 use Rattle.listings.proofs.Zeros.{by_bytes}
 
 -- ---- entries: how many there are, and how many an accepted sheet has

@@ -1,6 +1,5 @@
 -- The rooms of a run keep the lengths that they start with.
 use Prim.Native.Nat.{ℕ, zero, suc}
-use mathlib.Core.Path.{◌≡◌}
 use mathlib.Core.List.{List}
 use lib.ListN.{length}
 use Rattle.commands.specs.Commands.{command_at}

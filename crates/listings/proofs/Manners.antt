@@ -62,13 +62,13 @@ pub record Along (read : Reading) (n : Manner) (deck : List ℕ) (Kept : ℕ →
 
 module _ (read : Reading) (n : Manner) (deck : List ℕ) (Kept : ℕ → ℕ → Machine → Type 0) (along : Along read n deck Kept) where
   -- a command has the same effect
-  effect_of : (commands at : ℕ) (m : Machine) → ltb at (length deck) ≡ true → Kept (suc commands) at m → (c : Command) → command_at deck at ≡ c →
-      effect_of c at m ≡ manner_effect n c at m
+  same_effect : (commands at : ℕ) (m : Machine) → ltb at (length deck) ≡ true → Kept (suc commands) at m → (c : Command) →
+      command_at deck at ≡ c → effect_of c at m ≡ manner_effect n c at m
   unfolding effect_of manner_effect order_effect
-  effect_of commands at m b k Unknown e = refl
-  effect_of commands at m b k CutShort e = refl
-  effect_of commands at m b k (Enter y) e = refl
-  effect_of commands at m b k (Act o) e =
+  same_effect commands at m b k Unknown e = refl
+  same_effect commands at m b k CutShort e = refl
+  same_effect commands at m b k (Enter y) e = refl
+  same_effect commands at m b k (Act o) e =
       ap (λ (t : Transition). go_on (order_line o t.said) (at + order_size o) t.next) (along.same commands at m o b e k)
 
   -- what is printed and left behind it, where `listing` and `left` are those of the run after it
@@ -107,7 +107,9 @@ module _ (read : Reading) (n : Manner) (deck : List ℕ) (Kept : ℕ → ℕ →
           (elim b [ true ↦ printed (manner_listing_from read n commands deck) (manner_effect n (read deck at) at m) | false ↦ [] ])
       go rest true b =
           printed_is commands at m k rest b (effect_of (command_at deck at) at m) refl
-          ∙ ap (printed (manner_listing_from read n commands deck)) (effect_of commands at m b k (command_at deck at) refl ∙ ap (λ (c : Command). manner_effect n c at m) (along.reads commands at m b k))
+          ∙ ap (printed (manner_listing_from read n commands deck))
+          (same_effect commands at m b k (command_at deck at) refl
+          ∙ ap (λ (c : Command). manner_effect n c at m) (along.reads commands at m b k))
       go rest false b = refl
 
   pub register_is : (commands at : ℕ) (m : Machine) → Kept commands at m → register_from commands deck at m ≡ manner_register_from read n commands deck at m
@@ -121,7 +123,9 @@ module _ (read : Reading) (n : Manner) (deck : List ℕ) (Kept : ℕ → ℕ →
           (elim b [ true ↦ kept m.register (manner_register_from read n commands deck) (manner_effect n (read deck at) at m) | false ↦ m.register ])
       go rest true b =
           kept_is commands at m k rest b (effect_of (command_at deck at) at m) refl
-          ∙ ap (kept m.register (manner_register_from read n commands deck)) (effect_of commands at m b k (command_at deck at) refl ∙ ap (λ (c : Command). manner_effect n c at m) (along.reads commands at m b k))
+          ∙ ap (kept m.register (manner_register_from read n commands deck))
+          (same_effect commands at m b k (command_at deck at) refl
+          ∙ ap (λ (c : Command). manner_effect n c at m) (along.reads commands at m b k))
       go rest false b = refl
 
   -- the whole deck

@@ -10,13 +10,8 @@ use lib.Dec.{ltb}
 use lib.IntN.{pos}
 use lib.ListN.{length, get_or, take, drop, take-append-drop, drop_of_length-le}
 use lib.Seq.{take_all, length-take-le}
-use mathlib.Core.Logic.{⊎_elim}
-use types.Run.{OneOf}
-use denote.Enum.Declared.{tag_of}
-use Rattle.figures.specs.contracts.Answer.{the_type}
 use Rattle.sheet.specs.Brought.{Brought}
 use Rattle.refusals.specs.declared.Found.{Found}
-use Rattle.refusals.specs.declared.Found.TheVariants as Found
 use Rattle.refusals.specs.declared.Found.TheVariants.{Fine}
 use Rattle.refusals.specs.Tests.{first}
 use Rattle.figures.specs.declared.Answer.{Answer}

@@ -1,5 +1,5 @@
 -- By the rules of the calls.
-use Prim.Native.Nat.{ℕ, ◌+◌, ◌≤◌, ◌<◌}
+use Prim.Native.Nat.{ℕ, ◌+◌, ◌≤◌}
 use mathlib.Core.Path.{◌≡◌, refl, sym, ap, ◌∙◌}
 use mathlib.Core.Bool.{Bool, true, false, cond, true≢false, false≢true}
 use mathlib.Core.List.{List, [], ◌∷◌, ◌++◌}
@@ -8,10 +8,9 @@ use native.Mathlib.Omega.{arith}
 use lib.ListN.{get_or, take, drop, get_or-append}
 use Rattle.commands.specs.declared.Order.TheVariants.{Issue, Withdraw, Open, Back, Value, Delta, Forward}
 use Rattle.refusals.specs.declared.Found.{Found}
-use Rattle.refusals.specs.declared.Found.TheVariants as Found
 use Rattle.refusals.specs.Tests.{first}
 use Rattle.figures.specs.declared.Answer.{Answer}
-use Rattle.figures.specs.declared.Answer.TheVariants.{Refused, Done}
+use Rattle.figures.specs.declared.Answer.TheVariants.{Done}
 use Rattle.walk.specs.Answers.{Said, said_of, accepted}
 use Rattle.walk.specs.CallRules.{says}
 use Rattle.walk.specs.Calls.{ForwardOutcome, forward_tests, or_forward_outcome, forward_call}
@@ -19,9 +18,9 @@ use Rattle.walk.specs.OurEngine.{ours, forward_result}
 use Rattle.walk.proofs.Judging.{refusal_some}
 use Rattle.walk.proofs.OurEngine.{ours_keeps}
 use Rattle.machine.specs.Machine.{Machine}
-use Rattle.machine.specs.Rooms.{lent_rows, left_in_row, open_in_rooms, back_in_rooms, value_in_rooms, ratio_in_rooms, forward_in_row, count_said, count_in_row}
+use Rattle.machine.specs.Rooms.{lent_rows, open_in_rooms, back_in_rooms, value_in_rooms, ratio_in_rooms, forward_in_row, count_said, count_in_row}
 use Rattle.machine.specs.Rooms.{distribution_in_row}
-use Rattle.machine.specs.Transitions.{Transition, forward_transition, transition_of}
+use Rattle.machine.specs.Transitions.{forward_transition, transition_of}
 use Rattle.machine.specs.OrderRules.{CountRule, OrdersByRules}
 use Rattle.machine.proofs.LentRooms.{said_off, said_count}
 

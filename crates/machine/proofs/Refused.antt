@@ -1,18 +1,15 @@
 -- An order that is refused leaves the machine as it was.
-use Prim.Native.Nat.{ℕ, ◌+◌}
-use mathlib.Core.Path.{◌≡◌, refl, sym, ap, ◌∙◌}
-use mathlib.Core.Bool.{Bool, true, false, cond, true≢false}
+use Prim.Native.Nat.{ℕ}
+use mathlib.Core.Path.{◌≡◌, ap, ◌∙◌}
+use mathlib.Core.Bool.{Bool, false, cond}
 use mathlib.Core.List.{List, ◌++◌}
 use lib.ListN.{take, drop, take-append-drop}
-use Rattle.commands.specs.declared.Order.{Order}
 use Rattle.commands.specs.declared.Order.TheVariants.{Issue, Withdraw, Open, Back, Value, Delta, Forward}
-use Rattle.sheet.specs.Brought.{Brought}
 use Rattle.rows.specs.Rows.{Rows, rows_of, row_length}
-use Rattle.walk.specs.declared.Walk.{Walk}
 use Rattle.walk.specs.Answers.{Said, said_of, accepted}
 use Rattle.walk.specs.CallRules.{RefusalEffect}
 use Rattle.walk.specs.Calls.{Outcome, open_call, back_call, value_call, ratio_call}
-use Rattle.walk.specs.OurEngine.{walk_result, ours}
+use Rattle.walk.specs.OurEngine.{walk_result}
 use Rattle.walk.proofs.OurEngine.{ours_keeps}
 use Rattle.machine.specs.Machine.{Machine}
 use Rattle.machine.specs.Rooms.{lent_rows, left_in_rooms, open_in_rooms, back_in_rooms, value_in_rooms, ratio_in_rooms, forward_in_row, count_said, count_in_row}

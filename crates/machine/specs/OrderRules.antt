@@ -1,6 +1,6 @@
 -- Each order keeps to the rule of its call, on the rows that the program lends it: the first refusal of the call's order, what an accepted call does,
 -- what a refused one leaves. So nothing that a deck says or leaves is decided elsewhere than by the rules of the calls. Proved in proofs/OrderRules.antt.
-use Rattle.std.specs.Prelude.{ℕ, ◌+◌, ◌≤◌, ◌<◌, ◌≡◌, true, false, List, [], ◌∷◌, ◌++◌, pos, get_or, take, drop}
+use Rattle.std.specs.Prelude.{ℕ, ◌+◌, ◌≤◌, ◌<◌, ◌≡◌, true, false, [], ◌∷◌, ◌++◌, pos, get_or, take, drop}
 use Rattle.commands.specs.declared.Order.{Order}
 use Rattle.commands.specs.declared.Order.TheVariants.{Issue, Withdraw, Open, Back, Value, Delta, Forward}
 use Rattle.rows.specs.Rows.{rows_of, row_length}

@@ -4,7 +4,6 @@ use Rattle.std.specs.Prelude.{ℕ, ◌+◌, true, false, cond, List, [], ◌∷�
 use Rattle.sheet.specs.Brought.{Brought}
 use Rattle.rows.specs.Rows.{Rows, row_length}
 use Rattle.refusals.specs.declared.Found.{Found}
-use Rattle.refusals.specs.declared.Found.TheVariants as Found
 use Rattle.refusals.specs.declared.Found.TheVariants.{Fine}
 use Rattle.figures.specs.declared.Answer.{Answer}
 use Rattle.figures.specs.declared.Answer.TheVariants.{Refused, Done, Position, Worth, Ratio}

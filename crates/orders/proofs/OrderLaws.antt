@@ -1,14 +1,11 @@
 -- What the functions of `orders` do for each order, on plain values.
 use Prim.Native.Nat.{ℕ}
 use mathlib.Core.Path.{◌≡◌, refl, sym, ap, ◌∙◌}
-use mathlib.Core.List.{List, [], ◌∷◌}
+use mathlib.Core.List.{List}
 use native.Mathlib.Omega.{arith}
 use lib.ListN.{length}
-use types.Run.{OneOf, miss}
-use denote.Enum.Declared.{tag_of}
 use Rattle.register.specs.Register.{issue_answer, issue_leaves, withdraw_answer, withdraw_leaves}
 use Rattle.sheet.specs.Brought.{Brought}
-use Rattle.commands.specs.contracts.Order.{the_type}
 use Rattle.commands.specs.declared.Order.{Order}
 use Rattle.commands.specs.declared.Order.TheVariants.{Issue, Withdraw, Open, Back, Value, Delta, Forward}
 use Rattle.walk.specs.declared.Reply.{Reply}
@@ -43,40 +40,46 @@ module _ (o : Order) (x : Brought) (register : List ℕ) (w : Walk) (rooms : Row
   back_calls q p = p ∙ sym (ap (λ (y : Order). call_of y x register w rooms) q)
 
 -- the other orders read nothing
-pub nothing_read : (o : Order) (x : Brought) (register : List ℕ) (w : Walk) (rooms : Rows) → OneOf (0 ∷ 1 ∷ 2 ∷ 3 ∷ 6 ∷ []) (tag_of the_type o) →
-    no_reading w rooms ≡ reading_of o x register w rooms
+pub nothing_read : (o : Order) (x : Brought) (register : List ℕ) (w : Walk) (rooms : Rows) →
+    ((j k : ℕ) → o ≡ Value j k → ⊥) → ((j k : ℕ) → o ≡ Delta j k → ⊥) → no_reading w rooms ≡ reading_of o x register w rooms
 unfolding reading_of
-nothing_read (Issue y) x register w rooms t = refl
-nothing_read (Withdraw y) x register w rooms t = refl
-nothing_read Open x register w rooms t = refl
-nothing_read (Back c) x register w rooms t = refl
-nothing_read (Value j k) x register w rooms t = absurd (miss (0 ∷ 1 ∷ 2 ∷ 3 ∷ 6 ∷ []) 4 tt t)
-nothing_read (Delta j k) x register w rooms t = absurd (miss (0 ∷ 1 ∷ 2 ∷ 3 ∷ 6 ∷ []) 5 tt t)
-nothing_read (Forward i k) x register w rooms t = refl
+nothing_read (Issue y) x register w rooms v d = refl
+nothing_read (Withdraw y) x register w rooms v d = refl
+nothing_read Open x register w rooms v d = refl
+nothing_read (Back c) x register w rooms v d = refl
+nothing_read (Value j k) x register w rooms v d = absurd (v j k refl)
+nothing_read (Delta j k) x register w rooms v d = absurd (d j k refl)
+nothing_read (Forward i k) x register w rooms v d = refl
 
 -- what is neither open nor back is a reading
-pub reads_call : (o : Order) (x : Brought) (register : List ℕ) (w : Walk) (rooms : Rows) → OneOf (0 ∷ 1 ∷ 4 ∷ 5 ∷ 6 ∷ []) (tag_of the_type o) →
-    reading_of o x register w rooms ≡ call_of o x register w rooms
+pub reads_call : (o : Order) (x : Brought) (register : List ℕ) (w : Walk) (rooms : Rows) →
+    (o ≡ Open → ⊥) → ((c : ℕ) → o ≡ Back c → ⊥) → reading_of o x register w rooms ≡ call_of o x register w rooms
 unfolding call_of
-reads_call (Issue y) x register w rooms t = refl
-reads_call (Withdraw y) x register w rooms t = refl
-reads_call Open x register w rooms t = absurd (miss (0 ∷ 1 ∷ 4 ∷ 5 ∷ 6 ∷ []) 2 tt t)
-reads_call (Back c) x register w rooms t = absurd (miss (0 ∷ 1 ∷ 4 ∷ 5 ∷ 6 ∷ []) 3 tt t)
-reads_call (Value j k) x register w rooms t = refl
-reads_call (Delta j k) x register w rooms t = refl
-reads_call (Forward i k) x register w rooms t = refl
+reads_call (Issue y) x register w rooms p b = refl
+reads_call (Withdraw y) x register w rooms p b = refl
+reads_call Open x register w rooms p b = absurd (p refl)
+reads_call (Back c) x register w rooms p b = absurd (b c refl)
+reads_call (Value j k) x register w rooms p b = refl
+reads_call (Delta j k) x register w rooms p b = refl
+reads_call (Forward i k) x register w rooms p b = refl
+
+-- an order that calls the walk and lends no row
+pub record Called (o : Order) : Type 0 where
+  pub issue : (y : ℕ) → o ≡ Issue y → ⊥
+  pub withdraw : (y : ℕ) → o ≡ Withdraw y → ⊥
+  pub forward : (i k : ℕ) → o ≡ Forward i k → ⊥
 
 -- open, back, value and delta are their call of the walk
-call_acted : (o : Order) (s : Machine) → OneOf (2 ∷ 3 ∷ 4 ∷ 5 ∷ []) (tag_of the_type o) →
+call_acted : (o : Order) (s : Machine) → Called o →
     call_transition s (call_of o s.draft.brought s.register s.walk s.rooms) ≡ transition_of o s
 unfolding reading_of call_of transition_of
-call_acted (Issue y) s t = absurd (miss (2 ∷ 3 ∷ 4 ∷ 5 ∷ []) 0 tt t)
-call_acted (Withdraw y) s t = absurd (miss (2 ∷ 3 ∷ 4 ∷ 5 ∷ []) 1 tt t)
+call_acted (Issue y) s t = absurd (t.issue y refl)
+call_acted (Withdraw y) s t = absurd (t.withdraw y refl)
 call_acted Open s t = refl
 call_acted (Back c) s t = refl
 call_acted (Value j k) s t = refl
 call_acted (Delta j k) s t = refl
-call_acted (Forward i k) s t = absurd (miss (2 ∷ 3 ∷ 4 ∷ 5 ∷ []) 6 tt t)
+call_acted (Forward i k) s t = absurd (t.forward i k refl)
 
 -- ---- the state after an order
 
@@ -101,7 +104,7 @@ module _ (o : Order) (e : Draft) (w : Walk) (register ds ps row : List ℕ) wher
   unfolding transition_of
   withdraw_acts q v s l = (λ j. record { said = s j; next = machine_of e (l j) (v j) ds ps row }) ∙ as_is q
 
-  pub call_acts : {r : Reply} {said : Said} {ds' ps' : List ℕ} → OneOf (2 ∷ 3 ∷ 4 ∷ 5 ∷ []) (tag_of the_type o) →
+  pub call_acts : {r : Reply} {said : Said} {ds' ps' : List ℕ} → Called o →
       replied r ds' ps' ≡ call_of o e.brought register w (rows_of ds ps) → said ≡ said_of r.answer →
       transition_said said (machine_of e register r.walk ds' ps' row) ≡ transition_of o before
   call_acts {r} {ds' = ds'} {ps' = ps'} t p v =

@@ -10,7 +10,7 @@ use images::{digits_bad, packed_value, store_image};
 use sheet::COUPON_MOST;
 
 // What reading answers.
-#[derive(Drop)]
+#[derive(Clone, Copy)]
 pub enum Reading {
     // 0
     Read(u64),

@@ -6,7 +6,7 @@ ghost use Rattle.std.specs.Prelude.{◌≡◌, true, ◌<◌, length};
 ghost use Rattle.places.specs.Places.{next_place, chosen, any_over, taken, served, served_first, shown_of, stored_of};
 
 // What a call for turns answers.
-#[derive(Drop)]
+#[derive(Clone, Copy)]
 pub enum Turned {
     // 0, how many places were written, and the place served last
     Served(usize, usize),

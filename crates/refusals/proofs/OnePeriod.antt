@@ -1,21 +1,17 @@
 -- One period changes no refusal.
-use Prim.Native.Nat.{ℕ, zero, suc, ◌+◌, ◌*◌, ◌≤◌}
+use Prim.Native.Nat.{ℕ, ◌*◌}
 use mathlib.Core.Path.{◌≡◌, refl, sym, ap, ◌∙◌}
-use mathlib.Core.Bool.{Bool, true, false, ◌||◌, cond}
+use mathlib.Core.Bool.{Bool, true, false, ◌||◌}
 use mathlib.Core.List.{List, [], ◌∷◌}
-use native.Mathlib.Omega.{arith}
 use native.Mathlib.Nat.{one-mul}
 use lib.ListN.{length, get_or}
 use lib.Dec.{ltb}
 use borrow.Author.Tests.{le-ltb}
 use Rattle.cash.specs.Units.{B}
-use Rattle.sheet.specs.Terms.{Terms}
 use Rattle.sheet.specs.Brought.{Brought}
 use Rattle.rows.specs.Tables.{any}
 use Rattle.rows.proofs.Search.{or_left}
-use Rattle.refusals.specs.declared.Refusal.{Refusal}
-use Rattle.refusals.specs.declared.Refusal.TheVariants.{Pool, Length, Recovery, Attachments, Hazard, Discount, Accrual, Coupon, Periods}
-use Rattle.refusals.specs.Tests.{differs, pool_bad, periods_bad, lists_bad, recovery_bad, attachments_bad, starts_bad, hazards_bad, discounts_bad, accruals_bad, coupons_bad, Test, first, sheet_tests}
+use Rattle.refusals.specs.Tests.{differs, pool_bad, periods_bad, lists_bad, starts_bad, hazards_bad, Test, first, sheet_tests}
 use Rattle.refusals.specs.OnePeriod.{steady_lists_bad, steady_hazards_bad, steady_tests, RefusalsSteady}
 use Rattle.refusals.proofs.FirstTest.{first_met, first_passed}
 use Rattle.refusals.proofs.Meanings.{pool_fine, lists_fine}

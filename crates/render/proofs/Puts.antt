@@ -29,6 +29,15 @@ pub record Put (before : List ℕ) (at : ℕ) (text after : List ℕ) (end most 
 pub put : {before text after : List ℕ} {at end : ℕ} (most : ℕ) → Wrote before at text after end → length text ≤ most → Put before at text after end most
 put most w h = record { wrote = w; long = wrote_long w; short = omega (arith, w.stop) }
 
+-- where the end is known, and not the length
+pub put_short : {before text after : List ℕ} {at end most : ℕ} → Wrote before at text after end → end ≤ at + most →
+    Put before at text after end most
+put_short w h = record { wrote = w; long = wrote_long w; short = h }
+
+pub wider : {before text after : List ℕ} {at end k j : ℕ} → k ≤ j → Put before at text after end k →
+    Put before at text after end j
+wider h p = record { wrote = p.wrote; long = p.long; short = omega (arith, p.short, h) }
+
 pub both : {before a mid b after : List ℕ} {at m end k j : ℕ} → Put before at a mid m k → Put mid m b after end j → Put before at (a ++ b) after end (k + j)
 both p q = record { wrote = wrote_both p.wrote q.wrote; long = q.long ∙ p.long; short = omega (arith, p.short, q.short) }
 

@@ -1,5 +1,5 @@
 -- With all fractions 0 no default pays a premium.
-use Prim.Native.Nat.{ℕ, suc, ◌+◌, ◌-◌, ◌*◌, ◌≤◌}
+use Prim.Native.Nat.{ℕ, suc, ◌+◌, ◌-◌, ◌*◌}
 use mathlib.Core.Path.{◌≡◌, refl, ◌∙◌, ap, fun_ext}
 use native.Mathlib.Nat.{add-zero, zero-mul}
 use native.Mathlib.Omega.{arith}
@@ -10,7 +10,7 @@ use Rattle.tree.specs.Paths.{Move, survive, default}
 use Rattle.tree.specs.Backward.{Leg, over, leg_value, leg_exact}
 use Rattle.tree.specs.Legs.{premium_cash, premium_exact, elapsed_cash, elapsed_exact, mark}
 use Rattle.tree.specs.Sheet.{accrual_of, elapsed_of, NoneElapsed, outstanding_of, tree_of, premium_of, A, exact_a, dates, elapsed_count, premium_halves}
-use Rattle.tree.specs.DatesOnly.{dates_only, dates_most, ByDates, NoneElapsedByDates, DatesMostKept}
+use Rattle.tree.specs.DatesOnly.{dates_only, dates_most, NoneElapsedByDates, DatesMostKept}
 use Rattle.tree.proofs.Rolling.{over_zero}
 use Rattle.tree.proofs.Ceilings.{date_ceiling}
 use Rattle.tree.proofs.Sheets.{fair_of, outstanding_within, accruals_after_lem}

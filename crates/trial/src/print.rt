@@ -1,26 +1,23 @@
 // Words and numbers to standard output.
 use hedges::magnitude;
-use libc::STDOUT_FILENO;
+use std::io;
 use walk::Answer;
 
-pub fn text(words: &[u8]) {
-    io::write_all(STDOUT_FILENO, words);
+pub fn text(rt: &impl Print, words: &[u8]) -> io::Result<()> {
+    rt.write_all(words)
 }
 
 // A field: a space and a number.
-pub fn count(n: u64) {
-    text(b" ");
-    io::print_decimal(STDOUT_FILENO, n);
+pub fn count(rt: &impl Print, n: u64) -> io::Result<()> {
+    print!(rt; " {n}")
 }
 
-pub fn signed(x: i64) {
+pub fn signed(rt: &impl Print, x: i64) -> io::Result<()> {
     let size = magnitude(x);
     if x < 0 {
-        text(b" -");
-        io::print_decimal(STDOUT_FILENO, size);
-        return;
+        return print!(rt; " -{size}");
     }
-    count(size);
+    count(rt, size)
 }
 
 // The byte that a number stands for.
@@ -28,56 +25,60 @@ pub fn byte(number: u64) -> u8 {
     if number < 256 { number as u8 } else { 0 }
 }
 
-pub fn small(n: u8) {
-    count(n as u64);
+pub fn small(rt: &impl Print, n: u8) -> io::Result<()> {
+    count(rt, n as u64)
 }
 
 // A word and the number that a call answered.
-pub fn answer(words: &[u8], number: u8) {
-    text(words);
-    small(number);
+pub fn answer(rt: &impl Print, words: &[u8], number: u8) -> io::Result<()> {
+    text(rt, words)?;
+    small(rt, number)
 }
 
 // The same of an answer; the number that it has.
-pub fn done(words: &[u8], a: Answer) -> u8 {
+pub fn done(rt: &impl Print, words: &[u8], a: Answer) -> io::Result<u8> {
     let number = returns::number_in(a);
-    answer(words, number);
-    number
+    answer(rt, words, number)?;
+    Ok(number)
 }
 
-pub fn moved(a: Answer) {
-    if done(b" back", a) == 0 {
-        count(returns::position_in(a) as u64);
+pub fn moved(rt: &impl Print, a: Answer) -> io::Result<()> {
+    if done(rt, b" back", a)? == 0 {
+        count(rt, returns::position_in(a) as u64)?;
     }
+    Ok(())
 }
 
-pub fn valued(a: Answer) {
-    if done(b" value", a) == 0 {
-        count(returns::default_in(a));
-        count(returns::premium_in(a));
-        signed(returns::net_in(a));
+pub fn valued(rt: &impl Print, a: Answer) -> io::Result<()> {
+    if done(rt, b" value", a)? == 0 {
+        count(rt, returns::default_in(a))?;
+        count(rt, returns::premium_in(a))?;
+        signed(rt, returns::net_in(a))?;
     }
+    Ok(())
 }
 
-pub fn hedged(a: Answer) {
-    if done(b" ratio", a) == 0 {
-        signed(returns::ratio_in(a));
+pub fn hedged(rt: &impl Print, a: Answer) -> io::Result<()> {
+    if done(rt, b" ratio", a)? == 0 {
+        signed(rt, returns::ratio_in(a))?;
     }
+    Ok(())
 }
 
 // Q(0), Q(1) and the last of the row.
-pub fn distribution(a: Answer, row: &[u64]) {
-    let number = done(b" forward", a);
+pub fn distribution(rt: &impl Print, a: Answer, row: &[u64]) -> io::Result<()> {
+    let number = done(rt, b" forward", a)?;
     if row.len() < 2 {
-        return;
+        return Ok(());
     }
     if number == 0 {
-        count(row[0]);
-        count(row[1]);
-        count(row[row.len() - 1]);
+        count(rt, row[0])?;
+        count(rt, row[1])?;
+        count(rt, row[row.len() - 1])?;
     }
+    Ok(())
 }
 
-pub fn end() {
-    text(b"\n");
+pub fn end(rt: &impl Print) -> io::Result<()> {
+    text(rt, b"\n")
 }

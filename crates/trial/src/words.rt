@@ -1,9 +1,11 @@
 // The words of a trial's numbers, by their places.
 use crate::print;
+use std::io;
 
 // Words of 18 bytes with their spaces.
-pub fn of(place: usize) {
+pub fn of(rt: &impl Print, place: usize) -> io::Result<()> {
     cell(
+        rt,
         b"\
 names             steps             tranches          recovery          attachments lent  starts lent       \
 hazards lent      discounts lent    accruals lent     elapsed lent      coupons lent      register lent     \
@@ -16,16 +18,17 @@ position          back              tranche           count             forward 
 own next default  other defaults    index default     index next defaultlast default      own premium       \
 own next premium  other premiums    index premium     index next premiumlast premium      ",
         place,
-    );
+    )
 }
 
-fn cell(words: &[u8], place: usize) {
+fn cell(rt: &impl Print, words: &[u8], place: usize) -> io::Result<()> {
     if 58 < place {
-        return;
+        return Ok(());
     }
     let from = 18 * place;
     let to = from + 18;
     if to <= words.len() {
-        print::text(&words[from..to]);
+        print::text(rt, &words[from..to])?;
     }
+    Ok(())
 }

@@ -2,6 +2,7 @@
 
 #![tactic(auto)]
 
+use std::io;
 use trial::{print, registers};
 
 // The most that a net value W may be, one less and one more.
@@ -64,22 +65,28 @@ fn weighed(out: &[u8]) -> u64 {
 }
 
 // What the call answers, and its line.
-fn told(report: book::Report, out: &[u8]) {
+fn told(rt: &impl Print, report: book::Report, out: &[u8]) -> io::Result<()> {
     let number = book::report_number(report);
-    print::answer(b" answer", number);
+    print::answer(rt, b" answer", number)?;
     if number == 0 {
         let bytes = book::bytes_in(report);
-        print::text(b" bytes");
-        print::count(bytes as u64);
-        print::end();
-        print::text(registers::bytes(out, bytes));
-        return;
+        print::text(rt, b" bytes")?;
+        print::count(rt, bytes as u64)?;
+        print::end(rt)?;
+        return print::text(rt, registers::bytes(out, bytes));
     }
-    print::end();
+    print::end(rt)
 }
 
 // A book on so many bytes FF, with so many nominals and values: one position first, and others alike.
-fn book(lent: usize, nominals: usize, values: usize, first: Position, others: Position) {
+fn book(
+    rt: &impl Print,
+    lent: usize,
+    nominals: usize,
+    values: usize,
+    first: Position,
+    others: Position,
+) -> io::Result<()> {
     let nominal = first.nominal;
     let value = first.value;
     let mut all_nominals = [others.nominal; 4097];
@@ -87,92 +94,134 @@ fn book(lent: usize, nominals: usize, values: usize, first: Position, others: Po
     let mut room = [0xFF; 97];
     all_nominals[0] = nominal;
     all_values[0] = value;
-    print::text(b"book lent");
-    print::count(lent as u64);
-    print::text(b" positions");
-    print::count(nominals as u64);
-    print::count(values as u64);
+    print::text(rt, b"book lent")?;
+    print::count(rt, lent as u64)?;
+    print::text(rt, b" positions")?;
+    print::count(rt, nominals as u64)?;
+    print::count(rt, values as u64)?;
     let report = book::total(
         numbers(&all_nominals, nominals),
         numbers(&all_values, values),
         registers::bytes_mut(&mut room, lent),
     );
-    told(report, &room);
-    print::text(b"left");
-    print::count(weighed(registers::bytes(&room, lent)));
-    print::end();
+    told(rt, report, &room)?;
+    print::text(rt, b"left")?;
+    print::count(rt, weighed(registers::bytes(&room, lent)))?;
+    print::end(rt)
 }
 
 // Signs, and a line of 28 bytes.
-pub fn signs() {
-    book(96, 0, 0, at(0, 0), at(0, 0));
-    book(96, 1, 1, at(1, 1), at(0, 0));
-    book(96, 1, 1, at(-1, 1), at(0, 0));
-    book(96, 1, 1, at(1, -1), at(0, 0));
-    book(96, 1, 1, at(-1, -1), at(0, 0));
-    book(96, 2, 2, at(1, 5), at(-1, 5));
-    book(96, 3, 3, at(2, -3), at(0, -5));
-    book(96, 2, 2, at(1_000_000, 1), at(-1_000, 1));
+pub fn signs(rt: &impl Print) -> io::Result<()> {
+    book(rt, 96, 0, 0, at(0, 0), at(0, 0))?;
+    book(rt, 96, 1, 1, at(1, 1), at(0, 0))?;
+    book(rt, 96, 1, 1, at(-1, 1), at(0, 0))?;
+    book(rt, 96, 1, 1, at(1, -1), at(0, 0))?;
+    book(rt, 96, 1, 1, at(-1, -1), at(0, 0))?;
+    book(rt, 96, 2, 2, at(1, 5), at(-1, 5))?;
+    book(rt, 96, 3, 3, at(2, -3), at(0, -5))?;
+    book(rt, 96, 2, 2, at(1_000_000, 1), at(-1_000, 1))
 }
 
 // Carried and borrowed at billions and at their squares, at 64 bits, and books of the most positions.
-pub fn limbs() {
-    book(96, 2, 2, at(1, 999_999_999), at(1, 1));
-    book(96, 2, 2, at(1, 1_000_000_000), at(0, 0));
-    book(96, 2, 2, at(1, 1_000_000_000), at(-1, 1));
-    book(96, 2, 2, at(-1, 1_000_000_000), at(1, 1));
-    book(96, 2, 2, at(1_000, 1_000_000_000_000_000), at(-1, 1));
-    book(96, 2, 2, at(-1_000, 1_000_000_000_000_000), at(1, 1));
-    book(96, 2, 2, at(1_000, 1_000_000_000_000_000), at(0, 7));
-    book(96, 2, 2, at(1_000_000, 1_000_000_000_000), at(1, 1));
-    book(96, 2, 2, at(999_999, 1_000_001_000_001), at(0, 0));
-    book(96, 2, 2, at(999_999, 1_000_001_000_001), at(1, 1));
-    book(96, 6, 6, at(1, UNDER), at(1, UNDER));
-    book(96, 1, 1, at(1_000_000, 1_000_000_001_000), at(0, 0));
-    book(96, 2, 2, at(1_000_000, 9_223_372_036_854), at(1, 775_808));
-    book(96, 2, 2, at(-1_000_000, 9_223_372_036_854), at(-1, 775_809));
-    book(96, 2, 2, at(1_000_000, 18_446_744_073_709), at(1, 551_616));
-    book(96, 2, 2, at(1_000_000, MOST), at(-1_000_000, MOST));
-    book(96, 4096, 4096, at(1_000_000, MOST), at(1_000_000, MOST));
-    book(96, 4096, 4096, at(-1_000_000, MOST), at(1_000_000, -MOST));
-    book(96, 4096, 4096, at(-1_000_000, -MOST), at(1_000_000, -MOST));
-    book(96, 4096, 4096, at(-1_000_000, MOST), at(1_000_000, MOST));
-    book(96, 4095, 4095, at(1, 1), at(-1, -1));
+pub fn limbs(rt: &impl Print) -> io::Result<()> {
+    book(rt, 96, 2, 2, at(1, 999_999_999), at(1, 1))?;
+    book(rt, 96, 2, 2, at(1, 1_000_000_000), at(0, 0))?;
+    book(rt, 96, 2, 2, at(1, 1_000_000_000), at(-1, 1))?;
+    book(rt, 96, 2, 2, at(-1, 1_000_000_000), at(1, 1))?;
+    book(rt, 96, 2, 2, at(1_000, 1_000_000_000_000_000), at(-1, 1))?;
+    book(rt, 96, 2, 2, at(-1_000, 1_000_000_000_000_000), at(1, 1))?;
+    book(rt, 96, 2, 2, at(1_000, 1_000_000_000_000_000), at(0, 7))?;
+    book(rt, 96, 2, 2, at(1_000_000, 1_000_000_000_000), at(1, 1))?;
+    book(rt, 96, 2, 2, at(999_999, 1_000_001_000_001), at(0, 0))?;
+    book(rt, 96, 2, 2, at(999_999, 1_000_001_000_001), at(1, 1))?;
+    book(rt, 96, 6, 6, at(1, UNDER), at(1, UNDER))?;
+    book(rt, 96, 1, 1, at(1_000_000, 1_000_000_001_000), at(0, 0))?;
+    book(
+        rt,
+        96,
+        2,
+        2,
+        at(1_000_000, 9_223_372_036_854),
+        at(1, 775_808),
+    )?;
+    book(
+        rt,
+        96,
+        2,
+        2,
+        at(-1_000_000, 9_223_372_036_854),
+        at(-1, 775_809),
+    )?;
+    book(
+        rt,
+        96,
+        2,
+        2,
+        at(1_000_000, 18_446_744_073_709),
+        at(1, 551_616),
+    )?;
+    book(rt, 96, 2, 2, at(1_000_000, MOST), at(-1_000_000, MOST))?;
+    book(rt, 96, 4096, 4096, at(1_000_000, MOST), at(1_000_000, MOST))?;
+    book(
+        rt,
+        96,
+        4096,
+        4096,
+        at(-1_000_000, MOST),
+        at(1_000_000, -MOST),
+    )?;
+    book(
+        rt,
+        96,
+        4096,
+        4096,
+        at(-1_000_000, -MOST),
+        at(1_000_000, -MOST),
+    )?;
+    book(
+        rt,
+        96,
+        4096,
+        4096,
+        at(-1_000_000, MOST),
+        at(1_000_000, MOST),
+    )?;
+    book(rt, 96, 4095, 4095, at(1, 1), at(-1, -1))
 }
 
 // 28: more than there may be, and lists of unlike length.
-pub fn lengths() {
-    book(96, 4097, 4097, at(0, 0), at(0, 0));
-    book(96, 4096, 4095, at(0, 0), at(0, 0));
-    book(96, 4095, 4096, at(0, 0), at(0, 0));
-    book(96, 1, 2, at(1, 1), at(1, 1));
-    book(96, 2, 1, at(1, 1), at(1, 1));
-    book(96, 0, 1, at(1, 1), at(0, 0));
+pub fn lengths(rt: &impl Print) -> io::Result<()> {
+    book(rt, 96, 4097, 4097, at(0, 0), at(0, 0))?;
+    book(rt, 96, 4096, 4095, at(0, 0), at(0, 0))?;
+    book(rt, 96, 4095, 4096, at(0, 0), at(0, 0))?;
+    book(rt, 96, 1, 2, at(1, 1), at(1, 1))?;
+    book(rt, 96, 2, 1, at(1, 1), at(1, 1))?;
+    book(rt, 96, 0, 1, at(1, 1), at(0, 0))
 }
 
 // 28: nominals and values beyond their limits.
-pub fn ranges() {
-    book(96, 1, 1, at(1_000_001, 1), at(0, 0));
-    book(96, 1, 1, at(-1_000_001, 1), at(0, 0));
-    book(96, 1, 1, at(1, OVER), at(0, 0));
-    book(96, 1, 1, at(1, -OVER), at(0, 0));
-    book(96, 1, 1, at(1_000_001, 0), at(0, 0));
-    book(96, 1, 1, at(0, OVER), at(0, 0));
-    book(96, 2, 2, at(1, 1), at(1_000_001, 0));
-    book(96, 2, 2, at(1, 1), at(0, OVER));
-    book(96, 1, 1, at(LEAST, 1), at(0, 0));
-    book(96, 1, 1, at(1, LEAST), at(0, 0));
-    book(96, 1, 1, at(GREATEST, 1), at(0, 0));
-    book(96, 1, 1, at(1, GREATEST), at(0, 0));
+pub fn ranges(rt: &impl Print) -> io::Result<()> {
+    book(rt, 96, 1, 1, at(1_000_001, 1), at(0, 0))?;
+    book(rt, 96, 1, 1, at(-1_000_001, 1), at(0, 0))?;
+    book(rt, 96, 1, 1, at(1, OVER), at(0, 0))?;
+    book(rt, 96, 1, 1, at(1, -OVER), at(0, 0))?;
+    book(rt, 96, 1, 1, at(1_000_001, 0), at(0, 0))?;
+    book(rt, 96, 1, 1, at(0, OVER), at(0, 0))?;
+    book(rt, 96, 2, 2, at(1, 1), at(1_000_001, 0))?;
+    book(rt, 96, 2, 2, at(1, 1), at(0, OVER))?;
+    book(rt, 96, 1, 1, at(LEAST, 1), at(0, 0))?;
+    book(rt, 96, 1, 1, at(1, LEAST), at(0, 0))?;
+    book(rt, 96, 1, 1, at(GREATEST, 1), at(0, 0))?;
+    book(rt, 96, 1, 1, at(1, GREATEST), at(0, 0))
 }
 
 // 2, also beside 28.
-pub fn rooms() {
-    book(95, 1, 1, at(1, 1), at(0, 0));
-    book(97, 1, 1, at(1, 1), at(0, 0));
-    book(0, 1, 1, at(1, 1), at(0, 0));
-    book(0, 0, 0, at(0, 0), at(0, 0));
-    book(95, 1, 2, at(1_000_001, 1), at(0, 0));
-    book(97, 4097, 4097, at(0, 0), at(0, 0));
-    book(97, 1, 1, at(1, -OVER), at(0, 0));
+pub fn rooms(rt: &impl Print) -> io::Result<()> {
+    book(rt, 95, 1, 1, at(1, 1), at(0, 0))?;
+    book(rt, 97, 1, 1, at(1, 1), at(0, 0))?;
+    book(rt, 0, 1, 1, at(1, 1), at(0, 0))?;
+    book(rt, 0, 0, 0, at(0, 0), at(0, 0))?;
+    book(rt, 95, 1, 2, at(1_000_001, 1), at(0, 0))?;
+    book(rt, 97, 4097, 4097, at(0, 0), at(0, 0))?;
+    book(rt, 97, 1, 1, at(1, -OVER), at(0, 0))
 }

@@ -1,5 +1,6 @@
 // The calls on what a trial lends, each handing its walk to the next. They print the number that is answered, and the figures if it is 0.
 use sheet::Sheet;
+use std::io;
 use trial::at::Trial;
 use trial::{at, print};
 use walk::Walk;
@@ -21,13 +22,14 @@ fn holding(trial: Trial, walk: Walk) -> Trial {
 }
 
 fn ratio(
+    rt: &impl Print,
     trial: Trial,
     sheet: Sheet,
     numbers: &[u64],
     register: &[u8],
     defaults: &[u64],
     premiums: &[u64],
-) {
+) -> io::Result<()> {
     let walk = held(trial);
     let r = walk.hedge_ratio(
         sheet,
@@ -39,17 +41,18 @@ fn ratio(
         at::size(trial, at::COUNT),
     );
     let answer = r.answer;
-    print::hedged(answer);
+    print::hedged(rt, answer)
 }
 
 fn value(
+    rt: &impl Print,
     trial: Trial,
     sheet: Sheet,
     numbers: &[u64],
     register: &[u8],
     defaults: &[u64],
     premiums: &[u64],
-) {
+) -> io::Result<()> {
     let walk = held(trial);
     let r = walk.value(
         sheet,
@@ -62,25 +65,27 @@ fn value(
     );
     let answer = r.answer;
     let left = r.walk;
-    print::valued(answer);
+    print::valued(rt, answer)?;
     ratio(
+        rt,
         holding(trial, left),
         sheet,
         numbers,
         register,
         defaults,
         premiums,
-    );
+    )
 }
 
 fn back(
+    rt: &impl Print,
     trial: Trial,
     sheet: Sheet,
     numbers: &[u64],
     register: &[u8],
     defaults: &mut [u64],
     premiums: &mut [u64],
-) {
+) -> io::Result<()> {
     let walk = held(trial);
     let r = walk.back(
         sheet,
@@ -92,58 +97,69 @@ fn back(
     );
     let answer = r.answer;
     let left = r.walk;
-    print::moved(answer);
+    print::moved(rt, answer)?;
     value(
+        rt,
         holding(trial, left),
         sheet,
         numbers,
         register,
         defaults,
         premiums,
-    );
+    )
 }
 
 fn open(
+    rt: &impl Print,
     trial: Trial,
     sheet: Sheet,
     numbers: &[u64],
     register: &[u8],
     defaults: &mut [u64],
     premiums: &mut [u64],
-) {
+) -> io::Result<()> {
     let walk = Walk::fresh();
     let r = walk.open(sheet, numbers, register, defaults, premiums);
     let answer = r.answer;
     let left = r.walk;
-    print::done(b" open", answer);
+    print::done(rt, b" open", answer)?;
     back(
+        rt,
         holding(trial, left),
         sheet,
         numbers,
         register,
         defaults,
         premiums,
-    );
+    )
 }
 
 // Open unless the walk is made up, back, value and ratio.
 pub fn walk(
+    rt: &impl Print,
     trial: Trial,
     sheet: Sheet,
     numbers: &[u64],
     register: &[u8],
     defaults: &mut [u64],
     premiums: &mut [u64],
-) {
+) -> io::Result<()> {
     if trial[at::MADE_UP] == 1 {
-        back(trial, sheet, numbers, register, defaults, premiums);
+        back(rt, trial, sheet, numbers, register, defaults, premiums)
     } else {
-        open(trial, sheet, numbers, register, defaults, premiums);
+        open(rt, trial, sheet, numbers, register, defaults, premiums)
     }
 }
 
 // Forward, with Q(0), Q(1) and the last of the row.
-pub fn forward(trial: Trial, sheet: Sheet, numbers: &[u64], register: &[u8], row: &mut [u64]) {
+pub fn forward(
+    rt: &impl Print,
+    trial: Trial,
+    sheet: Sheet,
+    numbers: &[u64],
+    register: &[u8],
+    row: &mut [u64],
+) -> io::Result<()> {
     let answer = walk::forward(sheet, numbers, register, row, at::size(trial, at::FORWARD));
-    print::distribution(answer, row);
+    print::distribution(rt, answer, row)
 }

@@ -3,6 +3,6 @@
 #![tactic(auto)]
 
 pub mod lengths; // lengths.rt: the lengths of what it lends
-pub mod lists; // lists.rt: the numbers of a sheet's lists
-pub mod rows; // rows.rt: rows
+pub mod lent_rows; // lent_rows.rt: rows
+pub mod sheet_lists; // sheet_lists.rt: the numbers of a sheet's lists
 pub mod spans; // spans.rt: a sheet's figures, and where its lists stand

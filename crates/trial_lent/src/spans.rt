@@ -1,6 +1,6 @@
 // The figures of a trial's sheet, and where its lists stand.
 use crate::lengths::{at_most, length};
-use crate::lists;
+use crate::sheet_lists;
 use sheet::{Pool, Span};
 use trial::at;
 use trial::at::Trial;
@@ -18,7 +18,7 @@ pub fn pool(trial: Trial) -> Pool {
 // The starts that a trial tells, and hazards as many as it tells, or else the names of each.
 pub fn starts_span(trial: Trial) -> Span {
     Span {
-        at: lists::STARTS,
+        at: sheet_lists::STARTS,
         length: at::size(trial, at::STARTS_LENT),
     }
 }
@@ -29,12 +29,12 @@ pub fn hazards_span(trial: Trial) -> Span {
         let names = at_most(trial[at::NAMES], 126);
         let starts = at_most(trial[at::STARTS_LENT], 17);
         return Span {
-            at: lists::HAZARDS,
+            at: sheet_lists::HAZARDS,
             length: names * starts,
         };
     }
     Span {
-        at: lists::HAZARDS,
+        at: sheet_lists::HAZARDS,
         length: told,
     }
 }

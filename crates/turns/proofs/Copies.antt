@@ -1,21 +1,20 @@
 -- Steps left that are copied out of a table, served and copied in again: what this comes to.
 use mathlib.Core.Path.{◌≡◌, refl, sym, ap, ◌∙◌}
 use mathlib.Core.Bool.{Bool, true, false, cond}
-use mathlib.Core.List.{List, [], ◌∷◌, ◌++◌, map}
+use mathlib.Core.List.{List, [], ◌∷◌, ◌++◌}
 use Prim.Native.Nat.{ℕ, zero, suc, ◌<◌, ◌≤◌}
 use native.Mathlib.Omega.{arith}
 use lib.Dec.{ltb}
-use lib.ListN.{length, get_or, set, take, drop, length-set, length-append, length-drop}
+use lib.ListN.{length, get_or, take, drop, length-set, length-append}
 use lib.Seq.{take-suc, take-suc-set, take-length, take_at}
-use borrow.Author.Tests.{lt-ltb, le-ltb, ltb-true, ltb-false}
+use borrow.Author.Tests.{le-ltb, ltb-true, ltb-false}
 use Rattle.places.specs.declared.Turned.{Turned}
-use Rattle.places.specs.declared.Turned.TheVariants as Turned
 use Rattle.places.specs.Places.{taken, Outcome, as_lent, served, among_first, served_first, shown_of, stored_of}
 use Rattle.places.proofs.Laws.{taken_long}
 use Rattle.places.proofs.Partway.{Says, served_refused, served_taken, first_long, first_short, served_length}
 use Rattle.turns.specs.declared.Turn.{Turn}
 use Rattle.turns.specs.Table.{steps_of, with_left, with_steps, left_at, left_set, copied_out, copied_in}
-use Rattle.turns.specs.Turns.{Leaves, turned}
+use Rattle.turns.specs.Turns.{turned}
 
 -- ---- lengths
 
@@ -23,31 +22,9 @@ pub length_copied_out : (table : List Turn) (left : List ℕ) (k : ℕ) → leng
 length_copied_out table left zero = refl
 length_copied_out table left (suc k) = length-set (copied_out table left k) k (left_at table k) ∙ length_copied_out table left k
 
-pub length_copied_in : (table : List Turn) (left : List ℕ) (k : ℕ) → length (copied_in table left k) ≡ length table
-length_copied_in table left zero = refl
-length_copied_in table left (suc k) = length-set (copied_in table left k) k _ ∙ length_copied_in table left k
-
 pub length_steps : (table : List Turn) → length (steps_of table) ≡ length table
 length_steps [] = refl
 length_steps (t ∷ table) = ap suc (length_steps table)
-
-shown_most_at : (n : ℕ) (t : Bool) → ltb 16 n ≡ t → cond t 16 n ≤ n
-shown_most_at n true e = let h = ltb-true 16 n e in omega arith
-shown_most_at n false e = omega arith
-
-pub shown_most : (n : ℕ) → shown_of n ≤ n
-shown_most n = shown_most_at n (ltb 16 n) refl
-
-shown_few_at : (n : ℕ) (t : Bool) → ltb 16 n ≡ t → cond t 16 n ≤ 16
-shown_few_at n true e = omega arith
-shown_few_at n false e = ltb-false 16 n e
-
-pub shown_few : (n : ℕ) → shown_of n ≤ 16
-shown_few n = shown_few_at n (ltb 16 n) refl
-
-pub stored_most : (r : Turned) (k : ℕ) → stored_of r k ≤ k
-stored_most (Turned.Served count last) k = omega arith
-stored_most Turned.Turns k = omega arith
 
 -- ---- copied out
 

@@ -1,3 +1,2 @@
 pub mod Again
 pub mod Copies
-pub mod Loops

@@ -1,6 +1,5 @@
 -- A turn table, a lent list of walk records: the steps left in it.
 use Rattle.std.specs.Prelude.{false, List, [], ◌∷◌, map, ℕ, zero, suc, get_or, set}
-use Rattle.walk.specs.declared.Walk.{Walk}
 use Rattle.turns.specs.declared.Turn.{Turn}
 
 abbrev pub steps_of : List Turn → List ℕ

@@ -1,5 +1,5 @@
 // Turns among walks (T-11), on the turn table that a caller lends: records of a walk and its steps left.
-// A slice of structs leaves its whole proof to be written, so these functions are few and thin: the work is done in `places`, on numbers.
+// The work is done in `places`, on numbers: these functions copy the steps left of the walks, and call.
 
 #![tactic(auto)]
 

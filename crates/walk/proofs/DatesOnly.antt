@@ -1,6 +1,6 @@
 -- All fractions 0 change no rule, and no call on rows that both ceilings tell alike.
 use Prim.Native.Nat.{ℕ, zero, suc, pred, ◌+◌, ◌-◌, ◌*◌}
-use mathlib.Core.Path.{◌≡◌, refl, ap, sym, ◌∙◌, fun_ext}
+use mathlib.Core.Path.{◌≡◌, refl, ap, ◌∙◌, fun_ext}
 use mathlib.Core.Bool.{Bool, true, false}
 use mathlib.Core.List.{List}
 use native.Mathlib.Nat.{add-zero, zero-mul}
@@ -18,10 +18,10 @@ use Rattle.refusals.specs.Tests.{pool_bad, periods_bad, recovery_bad, attachment
 use Rattle.refusals.specs.DatesOnly.{dates_only_lists_bad, dates_only_tests}
 use Rattle.refusals.proofs.DatesOnly.{refusals_by_dates}
 use Rattle.walk.specs.declared.Walk.{Walk}
-use Rattle.walk.specs.CallRules.{backward_rule, BackStep}
+use Rattle.walk.specs.CallRules.{backward_rule}
 use Rattle.walk.specs.Calls.{rolls}
 use Rattle.walk.specs.Manners.{CeilingsAsked, CallsAlike}
-use Rattle.walk.specs.DatesOnly.{ZeroFractions, RuleByDates, dates_only_soiled, dates_only_manner, with_elapsed, ReadsNoFraction, DatesOnlyBlind, SoiledAlike, ZeroFractionCalls}
+use Rattle.walk.specs.DatesOnly.{RuleByDates, dates_only_soiled, dates_only_manner, with_elapsed, ReadsNoFraction, DatesOnlyBlind, SoiledAlike, ZeroFractionCalls}
 use Rattle.walk.proofs.Manners.{calls_alike}
 
 -- As many zeros as one likes.

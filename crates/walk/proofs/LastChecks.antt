@@ -10,7 +10,7 @@ use lib.IntN.{ℤ, nat_abs}
 use lib.ListN.{length, get_or}
 use Rattle.hedges.specs.declared.Hedge.TheVariants as Hedge
 use Rattle.hedges.specs.Hedges.{ratio_of, hedge_of}
-use Rattle.tree.specs.Sheet.{default_of, premium_of, default_most, premium_most}
+use Rattle.tree.specs.Sheet.{default_of, premium_of, default_most}
 use Rattle.rows.specs.Tables.{tab, grid}
 use Rattle.rows.specs.Rows.{row_length, row_of, rolled_back, distribution_row, rows_of}
 use Rattle.rows.specs.Rollable.{Rollable}
@@ -21,7 +21,6 @@ use Rattle.sheet.specs.Brought.{Brought}
 use Rattle.sheet.specs.Limits.{TranchesWithin}
 use Rattle.sheet.proofs.Limits.{limits_terms}
 use Rattle.refusals.specs.declared.Refusal.{Refusal}
-use Rattle.refusals.specs.declared.Refusal.TheVariants as Refusal
 use Rattle.refusals.specs.declared.Found.TheVariants.{Fine, Refused}
 use Rattle.refusals.specs.Tests.{first, pool_bad}
 use Rattle.refusals.proofs.FirstTest.{first_none, first_met, first_passed}

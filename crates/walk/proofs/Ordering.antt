@@ -1,7 +1,7 @@
 -- The tests of each call stand for its order of rules; what the rules of an order come to.
 use Prim.Native.Nat.{ℕ, suc, ◌*◌, ◌≤◌, ◌<◌}
 use mathlib.Core.Path.{◌≡◌, refl, sym, ◌∙◌, ap}
-use mathlib.Core.Bool.{Bool, true, false, ◌||◌, true≢false}
+use mathlib.Core.Bool.{Bool, false, ◌||◌, true≢false}
 use mathlib.Core.List.{List, [], ◌∷◌}
 use mathlib.Core.Logic.Iff
 use mathlib.Core.Logic.{◌↔◌, ◌⊎◌, inl, inr}
@@ -10,7 +10,6 @@ use lib.ListN.{length, get_or}
 use lib.IntN.{nat_abs}
 use borrow.Author.Tests.{eqb-false, ne_eqb}
 use Rattle.register.specs.declared.answers.Status.{Status}
-use Rattle.register.specs.declared.answers.Status.TheVariants as Status
 use Rattle.register.specs.Register.{status_in}
 use Rattle.register.specs.Rules.{Unissued, Live, Withdrawn}
 use Rattle.register.proofs.Rules.{Says, wrong, withdrawn, unissued, live, says}

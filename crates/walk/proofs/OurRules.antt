@@ -26,7 +26,6 @@ use Rattle.rows.proofs.Tables.{length_tab, get_d_tab}
 use Rattle.sheet.specs.Brought.{Brought}
 use Rattle.refusals.specs.declared.Refusal.{Refusal}
 use Rattle.refusals.specs.declared.Found.{Found}
-use Rattle.refusals.specs.declared.Found.TheVariants as Found
 use Rattle.refusals.specs.Tests.{Test, first}
 use Rattle.walk.specs.declared.Walk.{Walk}
 use Rattle.figures.specs.declared.Answer.TheVariants.{Refused, Done, Position, Ratio}
@@ -40,7 +39,7 @@ use Rattle.walk.specs.OurEngine.{write_call, walk_result, forward_result, ours}
 use Rattle.walk.specs.Promise.{Rules}
 use Rattle.walk.proofs.Judging.{refusal, refusal_some, Holds, Stands, stands_fine, stands_judges}
 use Rattle.walk.proofs.Walking.{rolls_back_steps, zeros_full, zeros_default, zeros_premium}
-use Rattle.walk.proofs.Ordering.{live_issued, not_either, open_stands, back_stands, value_stands, ratio_stands, forward_stands, back_holds, forward_holds}
+use Rattle.walk.proofs.Ordering.{live_issued, not_either, open_stands, back_stands, value_stands, ratio_stands, forward_stands, forward_holds}
 
 -- ---- issue and withdraw
 

@@ -6,7 +6,6 @@ use Rattle.rows.specs.Rows.{Rows, rows_of, row_of, rolled_back, distribution_row
 use Rattle.sheet.specs.Brought.{Brought}
 use Rattle.refusals.specs.declared.Refusal.TheVariants.{OutOfSteps, OffTree, FlatHedge, OffScale}
 use Rattle.refusals.specs.declared.Found.{Found}
-use Rattle.refusals.specs.declared.Found.TheVariants as Found
 use Rattle.refusals.specs.Tests.{Test, first}
 use Rattle.walk.specs.declared.Walk.{Walk}
 use Rattle.figures.specs.declared.Answer.{Answer}

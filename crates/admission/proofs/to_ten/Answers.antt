@@ -1,13 +1,8 @@
 -- The checks of the sheet, and then by what the register says of its number.
-use mathlib.Core.Path.{◌≡◌, sym, ◌∙◌}
+use mathlib.Core.Path.{sym}
 use mathlib.Core.List.{[]}
-use borrow.Author.Rules.{rules}
-use Rattle.register.specs.declared.answers.Status.{Status}
-use Rattle.sheet.specs.Spans.{brought_in}
-use Rattle.refusals.specs.declared.Found.TheVariants.{Fine}
 use Rattle.refusals.specs.Tests.{first}
-use Rattle.admission.specs.LentTests.{ten_tests}
-use Rattle.admission.proofs.FirstRefusals.{ten_sheet, ten_status, by_status}
+use Rattle.admission.proofs.FirstRefusals.{ten_sheet, ten_status}
 use Rattle.admission.proofs.to_ten.Goals as goal
 
 pub returns-in-Refused : goal.returns-in-Refused

@@ -4,7 +4,6 @@ use mathlib.Core.Path.{sym, ap}
 use Rattle.walk.specs.Answers.{said_by}
 use Rattle.answers.specs.declared.OrderAnswer.TheVariants.{Refused}
 use Rattle.answers.specs.OrderAnswers.{answer_said}
-use borrow.Author.Rules.{rules}
 use Rattle.answers.proofs.of_register.Goals as goal
 
 pub returns-in-Accepted : goal.returns-in-Accepted

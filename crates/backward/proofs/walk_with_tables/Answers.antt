@@ -1,5 +1,4 @@
 -- The loop's invariant: the rows are `done` steps back, and the lists and tables are those of the sheet.
-use borrow.Author.Rules.{rules}
 use Prim.Native.Nat.{ℕ, ◌+◌, ◌-◌, ◌≤◌, ◌<◌}
 use mathlib.Core.List.{List}
 use mathlib.Core.Path.{◌≡◌, refl, sym, ap, subst, ◌∙◌}
@@ -11,7 +10,7 @@ use Rattle.sheet.specs.Spans.{terms_in}
 use Rattle.sheet.specs.Limits.{TranchesWithin}
 use Rattle.sheet.specs.Terms.{bare}
 use Rattle.sheet.proofs.Limits.{tranches_bare}
-use Rattle.backward.proofs.BetweenSteps.{StepsDone, steps_none, steps_more, discount_there, accrual_there, accrual_low, elapsed_there, earn_fits, starts_there, hazards_within, roll_fits, left_long, left_low, premium_low, accrued_fits, defaults_kept, premiums_kept, earned_long, defaults_end, premiums_end}
+use Rattle.backward.proofs.BetweenSteps.{steps_none, steps_more, discount_there, accrual_there, accrual_low, elapsed_there, earn_fits, starts_there, hazards_within, roll_fits, left_long, left_low, premium_low, accrued_fits, defaults_kept, premiums_kept, earned_long, defaults_end, premiums_end}
 use Rattle.backward.proofs.walk_with_tables.Goals as goal
 
 pub payments-requires : goal.payments-requires

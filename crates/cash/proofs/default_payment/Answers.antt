@@ -1,5 +1,4 @@
 -- `cash::default_payment` meets its contract.
-use borrow.Author.Rules.{rules}
 use mathlib.Core.Path.{refl}
 use Rattle.cash.specs.Losses.{default_payment}
 use Rattle.cash.proofs.default_payment.Goals as goal

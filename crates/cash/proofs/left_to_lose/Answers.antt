@@ -1,5 +1,4 @@
 -- `cash::left_to_lose` meets its contract.
-use borrow.Author.Rules.{rules}
 use native.Mathlib.Omega.{arith}
 use mathlib.Core.Path.{refl}
 use Rattle.cash.specs.Losses.{left_to_lose}

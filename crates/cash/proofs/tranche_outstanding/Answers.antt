@@ -1,5 +1,4 @@
 -- `cash::tranche_outstanding` meets its contract.
-use borrow.Author.Rules.{rules}
 use native.Mathlib.Omega.{arith}
 use Rattle.cash.specs.Losses.{left_to_lose, tranche_outstanding}
 use Rattle.cash.proofs.Recoveries.{recovery_fits}

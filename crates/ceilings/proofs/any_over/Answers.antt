@@ -1,7 +1,6 @@
 -- `ceilings::any_over` meets its contract. The loops' invariant: nothing is found, and at no place before `place` is a leg over its ceiling.
-use Prim.Native.Nat.{ℕ, suc, ◌+◌, ◌*◌, ◌-◌, ◌≤◌, ◌<◌}
+use Prim.Native.Nat.{ℕ, suc, ◌*◌, ◌≤◌, ◌<◌}
 use mathlib.Core.Path.{◌≡◌, refl, sym, ap, ◌∙◌}
-use mathlib.Core.Bool.{false}
 use lib.Arith.{digits_lt}
 use lib.ListN.{length}
 use native.Mathlib.Nat.{mul-le-mul}
@@ -11,7 +10,7 @@ use Rattle.sheet.specs.Terms.{Terms, bare}
 use Rattle.tree.specs.Sheet.{default_most}
 use Rattle.tranches.proofs.Losses.{losses_long, points_rise, ceiling_read}
 use Rattle.rows.proofs.Parts.{next_tranche}
-use Rattle.ceilings.proofs.Found.{Clean, over_at, clean_none, clean_more, over_default, over_premium, under_both, over_found, over_none}
+use Rattle.ceilings.proofs.Found.{over_at, clean_none, clean_more, over_default, over_premium, under_both, over_found, over_none}
 use Rattle.ceilings.proofs.any_over.Goals as goal
 
 pub search-init : goal.search-init

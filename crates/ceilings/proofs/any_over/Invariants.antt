@@ -1,17 +1,9 @@
 -- `ceilings::any_over` meets its contract. The loops' invariant: nothing is found, and at no place before `place` is a leg over its ceiling.
-use Prim.Native.Nat.{ℕ, suc, ◌+◌, ◌*◌, ◌-◌, ◌≤◌, ◌<◌}
-use mathlib.Core.Path.{◌≡◌, refl, sym, ap, ◌∙◌}
+use Prim.Native.Nat.{suc, ◌+◌, ◌*◌, ◌-◌, ◌≤◌}
+use mathlib.Core.Path.{◌≡◌}
 use mathlib.Core.Bool.{false}
-use lib.Arith.{digits_lt}
-use lib.ListN.{length}
-use native.Mathlib.Nat.{mul-le-mul}
-use native.Mathlib.Omega.{arith}
-use Rattle.cash.specs.Units.{B}
-use Rattle.sheet.specs.Terms.{Terms, bare}
-use Rattle.tree.specs.Sheet.{default_most}
-use Rattle.tranches.proofs.Losses.{losses_long, points_rise, ceiling_read}
-use Rattle.rows.proofs.Parts.{next_tranche}
-use Rattle.ceilings.proofs.Found.{Clean, over_at, clean_none, clean_more, over_default, over_premium, under_both, over_found, over_none}
+use Rattle.sheet.specs.Terms.{bare}
+use Rattle.ceilings.proofs.Found.{Clean, over_at}
 use Rattle.ceilings.proofs.any_over.Given as goal
 
 abbrev pub invariant-loop-k : goal.invariant-loop-k

@@ -1,5 +1,4 @@
 -- The attachment points and accruals are parts of the sheet's numbers; the part of its array is as long as the counts of a sheet.
-use borrow.Author.Rules.{rules}
 use Prim.Native.Nat.{◌+◌, ◌≤◌}
 use mathlib.Core.Path.{refl, sym, ◌∙◌}
 use native.Mathlib.Numerals.{add-one}

@@ -1,10 +1,7 @@
 -- `ceilings::premium_most` meets its contract. Past the last step no step is to come.
-use borrow.Author.Rules.{rules}
-use Prim.Native.Nat.{◌+◌, ◌-◌, ◌*◌, ◌≤◌}
+use Prim.Native.Nat.{◌*◌, ◌≤◌}
 use native.Mathlib.Omega.{arith}
-use lib.ListN.{drop}
 use Rattle.cash.specs.Units.{B}
-use Rattle.sheet.specs.Terms.{sum_of}
 use Rattle.rows.proofs.Sums.{sum_drop_most}
 use Rattle.ceilings.proofs.premium_most.Goals as goal
 

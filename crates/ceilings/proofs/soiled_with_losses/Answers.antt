@@ -1,5 +1,4 @@
 -- The search with the losses of the sheet.
-use borrow.Author.Rules.{rules}
 use mathlib.Core.Path.{◌∙◌}
 use mathlib.Core.List.{[]}
 use Rattle.ceilings.proofs.Found.{soiled-is}

@@ -1,5 +1,4 @@
 -- The checks of the tranches, then of the tree, then of the coupons.
-use borrow.Author.Rules.{rules}
 use mathlib.Core.Path.{◌≡◌, sym, ◌∙◌}
 use mathlib.Core.List.{[], ◌∷◌}
 use Rattle.sheet.specs.Brought.{Brought}

@@ -1,7 +1,6 @@
 -- The pool, then the lengths, then the figures.
 use mathlib.Core.Path.{◌≡◌, sym, ◌∙◌}
 use mathlib.Core.Bool.{false}
-use borrow.Author.Rules.{rules}
 use Rattle.sheet.specs.Brought.{Brought}
 use Rattle.sheet.specs.Spans.{brought_in}
 use Rattle.refusals.specs.Tests.{sheet_tests, pool_bad, lists_bad}

@@ -1,5 +1,4 @@
 -- The starts, then the hazards, then the discounts, then the accruals, then the elapsed fractions.
-use borrow.Author.Rules.{rules}
 use mathlib.Core.Path.{◌≡◌, sym, ap, ◌∙◌}
 use mathlib.Core.Bool.{false}
 use mathlib.Core.List.{List, ◌∷◌}

@@ -1,5 +1,4 @@
 -- `elapsed::earn` meets its contract: it holds the table already, or it is filled.
-use borrow.Author.Rules.{rules}
 use Prim.Native.Nat.{ℕ, suc}
 use mathlib.Core.Path.{sym, ap, ◌∙◌}
 use lib.ListN.{length}

@@ -1,14 +1,7 @@
 -- `elapsed::earned_row` meets its contract. The loop's invariant: the counts passed have their payment.
-use borrow.Author.Rules.{rules}
-use Prim.Native.Nat.{suc, ◌+◌, ◌-◌, ◌≤◌}
-use mathlib.Core.Path.{◌≡◌, sym, ap, ◌∙◌}
-use native.Mathlib.Nat.{le_of_lt}
-use native.Mathlib.Numerals.{add-one}
-use native.Mathlib.Omega.{arith}
-use lib.ListN.{get_or}
+use Prim.Native.Nat.{◌-◌, ◌≤◌}
 use Rattle.rows.specs.Kernels.{earned_at}
-use Rattle.rows.proofs.Sweep.{Swept, swept_none, swept_more, swept_tab}
-use Rattle.elapsed.proofs.Earned.{earned_before, earned_last}
+use Rattle.rows.proofs.Sweep.{Swept}
 use Rattle.elapsed.proofs.earned_row.Given as goal
 
 abbrev pub invariant-loop-k : goal.invariant-loop-k

@@ -2,8 +2,7 @@
 use Prim.Native.Nat.{ℕ, suc, ◌+◌, ◌-◌, ◌≤◌}
 use lib.ListN.{length}
 use native.Mathlib.Omega.{arith}
-use Rattle.rows.specs.Kernels.{earned_in}
-use Rattle.rows.proofs.Parts.{Passed, passed_none, passed_all, fits, part_long}
+use Rattle.rows.proofs.Parts.{passed_none, passed_all, fits, part_long}
 use Rattle.elapsed.proofs.Earned.{tranche_falls, tranche_filled}
 use Rattle.elapsed.proofs.earned_rows.Goals as goal
 

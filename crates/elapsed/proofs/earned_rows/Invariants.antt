@@ -1,10 +1,7 @@
 -- `elapsed::earned_rows` meets its contract. The loop's invariant: the tranches passed are filled.
-use Prim.Native.Nat.{ℕ, suc, ◌+◌, ◌-◌, ◌≤◌}
-use lib.ListN.{length}
-use native.Mathlib.Omega.{arith}
+use Prim.Native.Nat.{suc, ◌-◌}
 use Rattle.rows.specs.Kernels.{earned_in}
-use Rattle.rows.proofs.Parts.{Passed, passed_none, passed_all, fits, part_long}
-use Rattle.elapsed.proofs.Earned.{tranche_falls, tranche_filled}
+use Rattle.rows.proofs.Parts.{Passed}
 use Rattle.elapsed.proofs.earned_rows.Given as goal
 
 abbrev pub invariant-loop-j : goal.invariant-loop-j

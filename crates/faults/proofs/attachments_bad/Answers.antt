@@ -1,7 +1,6 @@
 -- `faults::checks::attachments_bad` meets its contract.
 use mathlib.Core.Path.{refl, sym, ◌∙◌}
 use mathlib.Core.Bool.{true, false}
-use borrow.Author.Rules.{rules}
 use Rattle.cash.specs.Units.{B}
 use Rattle.faults.proofs.Lists.{attachments_told}
 use Rattle.faults.proofs.attachments_bad.Goals as goal

@@ -1,7 +1,5 @@
 -- Zeros are above nothing; else the search decides.
 use mathlib.Core.Path.{sym, ◌∙◌}
-use borrow.Author.Rules.{rules}
-use borrow.Author.Tests.{not-true}
 use Rattle.faults.proofs.Elapsed.{zeros_clear}
 use Rattle.faults.proofs.Lists.{elapsed_told}
 use Rattle.faults.proofs.elapsed_bad.Goals as goal

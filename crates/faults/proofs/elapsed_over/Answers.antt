@@ -7,7 +7,7 @@ use borrow.Author.Tests.{lt-ltb, le-ltb}
 use lib.ListN.{length, drop}
 use Rattle.sheet.specs.Dates.{next_accrual}
 use Rattle.lists.proofs.Loops.{found}
-use Rattle.faults.proofs.Elapsed.{over_next, Clear, next_none, next_down, clear_none, clear_down, clear_all}
+use Rattle.faults.proofs.Elapsed.{next_none, next_down, clear_none, clear_down, clear_all}
 use Rattle.faults.proofs.elapsed_over.Goals as goal
 
 pub loop-i-init : goal.loop-i-init

@@ -1,13 +1,9 @@
 -- No fraction from step i + 1 on is above the accrual of its next premium date, and `next` is that of step i + 1.
-use Prim.Native.Nat.{◌-◌, ◌≤◌}
+use Prim.Native.Nat.{◌≤◌}
 use mathlib.Core.Path.{◌≡◌}
-use native.Mathlib.Omega.{arith}
-use borrow.Author.Rules.{rules}
-use borrow.Author.Tests.{lt-ltb, le-ltb}
 use lib.ListN.{length, drop}
 use Rattle.sheet.specs.Dates.{next_accrual}
-use Rattle.lists.proofs.Loops.{found}
-use Rattle.faults.proofs.Elapsed.{over_next, Clear, next_none, next_down, clear_none, clear_down, clear_all}
+use Rattle.faults.proofs.Elapsed.{over_next, Clear}
 use Rattle.faults.proofs.elapsed_over.Given as goal
 
 abbrev pub invariant-loop-i : goal.invariant-loop-i

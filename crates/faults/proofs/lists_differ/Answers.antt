@@ -1,5 +1,4 @@
 -- The first list of another length decides.
-use borrow.Author.Rules.{rules}
 use mathlib.Core.Path.{refl, sym, ◌∙◌}
 use mathlib.Core.Bool.{true, false}
 use Rattle.faults.proofs.Lists.{lists_told}

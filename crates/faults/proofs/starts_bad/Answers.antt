@@ -1,7 +1,6 @@
 -- The first start, then whether they rise, then the last of them.
 use mathlib.Core.Path.{refl, sym, ◌∙◌}
 use mathlib.Core.Bool.{true, false}
-use borrow.Author.Rules.{rules}
 use Rattle.refusals.proofs.Judged.{kept, broken, differs_fine}
 use Rattle.faults.proofs.Lists.{starts_told}
 use Rattle.faults.proofs.starts_bad.Goals as goal

@@ -1,10 +1,7 @@
 -- Every number passed is 0.
-use borrow.Author.Rules.{rules}
 use Prim.Native.Nat.{◌-◌, ◌≤◌}
-use mathlib.Core.Path.{refl}
-use native.Mathlib.Omega.{arith}
 use lib.ListN.{length}
-use Rattle.rows.proofs.Sweep.{Swept, swept_none, swept_more, swept_all}
+use Rattle.rows.proofs.Sweep.{Swept}
 use Rattle.figures.proofs.clear.Given as goal
 
 abbrev pub invariant-loop-i : goal.invariant-loop-i

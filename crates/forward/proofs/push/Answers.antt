@@ -6,7 +6,7 @@ use native.Mathlib.Nat.{le_trans, le_of_eq}
 use native.Mathlib.Omega.{arith}
 use lib.ListN.{length, get_or, length-set}
 use Rattle.cash.specs.Units.{B, half}
-use Rattle.forward.proofs.Moves.{half_part, product_most, product_fits, moves, moves_is, moves_last, Pushing, pushing_at, pushing_none, pushing_most, pushing_more, pushing_all}
+use Rattle.forward.proofs.Moves.{half_part, product_most, product_fits, moves, moves_is, moves_last, pushing_at, pushing_none, pushing_most, pushing_more, pushing_all}
 use Rattle.forward.proofs.push.Goals as goal
 
 pub loop-done-init : goal.loop-done-init

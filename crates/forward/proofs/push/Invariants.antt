@@ -1,12 +1,7 @@
 -- The counts over the next one are done, and those below it are as they came.
-use borrow.Author.Rules.{rules}
-use Prim.Native.Nat.{ℕ, ◌+◌, ◌*◌, ◌-◌, ◌≤◌, ◌<◌}
-use mathlib.Core.Path.{◌≡◌, ap, sym, ◌∙◌}
-use native.Mathlib.Nat.{le_trans, le_of_eq}
-use native.Mathlib.Omega.{arith}
-use lib.ListN.{length, get_or, length-set}
-use Rattle.cash.specs.Units.{B, half}
-use Rattle.forward.proofs.Moves.{half_part, product_most, product_fits, moves, moves_is, moves_last, Pushing, pushing_at, pushing_none, pushing_most, pushing_more, pushing_all}
+use Prim.Native.Nat.{◌-◌, ◌≤◌}
+use lib.ListN.{length}
+use Rattle.forward.proofs.Moves.{moves, Pushing}
 use Rattle.forward.proofs.push.Given as goal
 
 abbrev pub invariant-loop-done : goal.invariant-loop-done

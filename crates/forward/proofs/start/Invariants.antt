@@ -1,13 +1,10 @@
 -- The row starts afresh: B at the count 0, and each later count that the loop has passed is 0.
-use borrow.Author.Rules.{rules}
 use Prim.Native.Nat.{◌*◌, ◌-◌, ◌≤◌}
-use mathlib.Core.Path.{◌≡◌, refl}
-use native.Mathlib.Omega.{arith}
+use mathlib.Core.Path.{◌≡◌}
 use lib.ListN.{length}
 use Rattle.cash.specs.Units.{B}
 use Rattle.tree.specs.Forward.{same}
-use Rattle.rows.proofs.Sweep.{Swept, swept_none, swept_more, swept_tab}
-use Rattle.forward.proofs.Moves.{one_unit, none_later}
+use Rattle.rows.proofs.Sweep.{Swept}
 use Rattle.forward.proofs.start.Given as goal
 
 abbrev pub invariant-loop-k : goal.invariant-loop-k

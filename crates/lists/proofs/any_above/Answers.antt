@@ -1,6 +1,5 @@
 -- `lists::any_above` meets its contract: no number is below 0.
 use mathlib.Core.Path.{◌∙◌}
-use borrow.Author.Rules.{rules}
 use Rattle.lists.proofs.Loops.{above_is}
 use Rattle.lists.proofs.any_above.Goals as goal
 

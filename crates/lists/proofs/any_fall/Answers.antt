@@ -1,9 +1,7 @@
 -- `lists::any_fall` meets its contract. The numbers below i rise.
-use Prim.Native.Nat.{◌≤◌, ◌-◌}
 use native.Mathlib.Omega.{arith}
 use borrow.Author.Rules.{rules}
-use lib.ListN.{length}
-use Rattle.lists.proofs.Loops.{Risen, passed_none, risen_more, fall_found, fall_missed}
+use Rattle.lists.proofs.Loops.{passed_none, risen_more, fall_found, fall_missed}
 use Rattle.lists.proofs.any_fall.Goals as goal
 
 pub loop-i-init : goal.loop-i-init

@@ -1,13 +1,13 @@
 -- `lists::any_outside` meets its contract. No number below i is outside.
-use Prim.Native.Nat.{ℕ, ◌+◌, ◌-◌, ◌≤◌}
+use Prim.Native.Nat.{ℕ, ◌+◌}
 use mathlib.Core.Path.{◌≡◌, sym, ◌∙◌}
 use native.Mathlib.Omega.{arith}
 use borrow.Author.Rules.{rules}
 use mathlib.Core.Bool.{Bool}
-use lib.ListN.{length, get_or}
+use lib.ListN.{get_or}
 use Rattle.lists.specs.Outside.{outside}
 use Rattle.rows.proofs.Search.{any_missed}
-use Rattle.lists.proofs.Loops.{Passed, passed_none, passed_four, found_four}
+use Rattle.lists.proofs.Loops.{passed_none, passed_four, found_four}
 use Rattle.lists.proofs.any_outside.Goals as goal
 
 pub loop-i-init : goal.loop-i-init

@@ -1,13 +1,8 @@
 -- `lists::any_outside` meets its contract. No number below i is outside.
-use Prim.Native.Nat.{ℕ, ◌+◌, ◌-◌, ◌≤◌}
-use mathlib.Core.Path.{◌≡◌, sym, ◌∙◌}
-use native.Mathlib.Omega.{arith}
-use borrow.Author.Rules.{rules}
-use mathlib.Core.Bool.{Bool}
+use Prim.Native.Nat.{◌-◌, ◌≤◌}
 use lib.ListN.{length, get_or}
 use Rattle.lists.specs.Outside.{outside}
-use Rattle.rows.proofs.Search.{any_missed}
-use Rattle.lists.proofs.Loops.{Passed, passed_none, passed_four, found_four}
+use Rattle.lists.proofs.Loops.{Passed}
 use Rattle.lists.proofs.any_outside.Given as goal
 
 abbrev pub invariant-loop-i : goal.invariant-loop-i

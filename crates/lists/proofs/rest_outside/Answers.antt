@@ -1,12 +1,8 @@
 -- `lists::rest_outside` meets its contract. No number below i is outside.
-use Prim.Native.Nat.{◌≤◌, ◌-◌}
 use mathlib.Core.Path.{sym, ◌∙◌}
 use native.Mathlib.Omega.{arith}
-use borrow.Author.Rules.{rules}
-use lib.ListN.{length, get_or}
-use Rattle.lists.specs.Outside.{outside}
 use Rattle.rows.proofs.Search.{any_none}
-use Rattle.lists.proofs.Loops.{Passed, passed_more, found, missed}
+use Rattle.lists.proofs.Loops.{passed_more, found, missed}
 use Rattle.lists.proofs.rest_outside.Goals as goal
 
 pub loop-i-init : goal.loop-i-init

@@ -1,12 +1,8 @@
 -- `lists::rest_outside` meets its contract. No number below i is outside.
 use Prim.Native.Nat.{◌≤◌, ◌-◌}
-use mathlib.Core.Path.{sym, ◌∙◌}
-use native.Mathlib.Omega.{arith}
-use borrow.Author.Rules.{rules}
 use lib.ListN.{length, get_or}
 use Rattle.lists.specs.Outside.{outside}
-use Rattle.rows.proofs.Search.{any_none}
-use Rattle.lists.proofs.Loops.{Passed, passed_more, found, missed}
+use Rattle.lists.proofs.Loops.{Passed}
 use Rattle.lists.proofs.rest_outside.Given as goal
 
 abbrev pub invariant-loop-i : goal.invariant-loop-i

@@ -1,10 +1,8 @@
 -- `lists::sum` meets its contract. The total and what is left make the sum, and the total is at most B for each number passed.
-use Prim.Native.Nat.{◌≤◌, ◌-◌, ◌*◌}
 use native.Mathlib.Omega.{arith}
 use borrow.Author.Rules.{rules}
-use lib.ListN.{length}
 use Rattle.cash.specs.Units.{B}
-use Rattle.lists.proofs.Loops.{Summed, summed_none, summed_more, summed_all}
+use Rattle.lists.proofs.Loops.{summed_none, summed_more, summed_all}
 use Rattle.lists.proofs.sum.Goals as goal
 
 pub loop-i-init : goal.loop-i-init

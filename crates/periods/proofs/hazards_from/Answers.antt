@@ -1,5 +1,4 @@
 -- As many periods as have begun, less one, times the names.
-use borrow.Author.Rules.{rules}
 use Prim.Native.Nat.{ℕ, pred, ◌-◌, ◌*◌, ◌≤◌}
 use mathlib.Core.Path.{◌≡◌, sym, ap, ◌∙◌}
 use mathlib.Core.List.{List}

@@ -1,5 +1,4 @@
 -- The parts of its arrays are as long as the rows of the sheet.
-use borrow.Author.Rules.{rules}
 use Prim.Native.Nat.{◌+◌, ◌*◌, ◌≤◌}
 use mathlib.Core.Path.{refl}
 use native.Mathlib.Omega.{arith}

@@ -10,7 +10,6 @@ use Rattle.sheet.specs.Spans.{brought_in}
 use Rattle.walk.specs.Answers.{accepted}
 use Rattle.machine.specs.Rooms.{off_tree_said}
 use Rattle.machine.proofs.LentRooms.{part_long, distribution_left, distribution_off, names_few, said_count, said_other}
-use borrow.Author.Rules.{rules}
 use Rattle.rooms.proofs.forward.Goals as goal
 
 pub slice_bounds-judge_forward-end-then-pool-count : goal.slice_bounds-judge_forward-end-then-pool-count

@@ -5,7 +5,6 @@ use Rattle.rows.specs.Rows.{Rows, row_length}
 use Rattle.walk.specs.Calls.{ratio_call}
 use Rattle.machine.specs.Rooms.{ratio_in_rooms}
 use Rattle.machine.proofs.LentRooms.{part_long, rooms_read}
-use borrow.Author.Rules.{rules}
 use Rattle.rooms.proofs.hedge_ratio.Goals as goal
 
 pub slice_bounds-hedge_ratio-end : goal.slice_bounds-hedge_ratio-end

@@ -1,6 +1,5 @@
 -- `rooms::off_tree` meets its contract.
 use mathlib.Core.Path.{sym, ap, ◌∙◌}
-use borrow.Author.Rules.{rules}
 use Rattle.refusals.specs.declared.Found.{Found}
 use Rattle.machine.specs.Rooms.{off_tree_said}
 use Rattle.rooms.proofs.off_tree.Goals as goal

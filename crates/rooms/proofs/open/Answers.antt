@@ -5,7 +5,6 @@ use Rattle.rows.specs.Rows.{Rows, row_length}
 use Rattle.walk.specs.Calls.{open_call}
 use Rattle.machine.specs.Rooms.{open_in_rooms}
 use Rattle.machine.proofs.LentRooms.{part_long, rooms_left}
-use borrow.Author.Rules.{rules}
 use Rattle.rooms.proofs.open.Goals as goal
 
 pub slice_bounds-open-end-2 : goal.slice_bounds-open-end-2

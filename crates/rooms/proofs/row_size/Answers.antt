@@ -1,7 +1,6 @@
 -- `rooms::row_size` meets its contract: a product of factors from 1 on is at least each of them.
 use native.Mathlib.Omega.{arith}
 use Rattle.machine.proofs.LentRooms.{product_left, product_right, product_most}
-use borrow.Author.Rules.{rules}
 use Rattle.rooms.proofs.row_size.Goals as goal
 
 pub returns-then-pool-ge-ROW_MOST : goal.returns-then-pool-ge-ROW_MOST

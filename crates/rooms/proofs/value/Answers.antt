@@ -5,7 +5,6 @@ use Rattle.rows.specs.Rows.{Rows, row_length}
 use Rattle.walk.specs.Calls.{value_call}
 use Rattle.machine.specs.Rooms.{value_in_rooms}
 use Rattle.machine.proofs.LentRooms.{part_long, rooms_read}
-use borrow.Author.Rules.{rules}
 use Rattle.rooms.proofs.value.Goals as goal
 
 pub slice_bounds-value-end : goal.slice_bounds-value-end

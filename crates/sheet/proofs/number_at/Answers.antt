@@ -3,7 +3,6 @@ use Prim.Native.Nat.{ℕ, ◌<◌}
 use mathlib.Core.List.{List}
 use native.Mathlib.Omega.{arith}
 use lib.ListN.{length, get_or}
-use Rattle.sheet.specs.Spans.{list_in}
 use Rattle.sheet.proofs.number_at.Goals as goal
 
 within : (l m : List ℕ) (place : ℕ) → place < length m → l ≡ m → place < length l

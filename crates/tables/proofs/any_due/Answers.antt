@@ -1,5 +1,4 @@
 -- `tables::any_due` meets its contract.
-use borrow.Author.Rules.{rules}
 use mathlib.Core.Path.{◌≡◌, sym, ap, ◌∙◌}
 use mathlib.Core.Bool.{Bool, true, false, ◌||◌}
 use Rattle.tables.proofs.any_due.Goals as goal

@@ -1,8 +1,6 @@
 -- `tables::is_due` meets its contract. Nothing is due in the steps passed.
-use borrow.Author.Rules.{rules}
 use Prim.Native.Nat.{◌-◌, ◌≤◌}
-use native.Mathlib.Omega.{arith}
-use Rattle.tables.proofs.Due.{Undue, undue_none, undue_more, due_found, due_none}
+use Rattle.tables.proofs.Due.{Undue}
 use Rattle.tables.proofs.is_due.Given as goal
 
 abbrev pub invariant-loop-done : goal.invariant-loop-done

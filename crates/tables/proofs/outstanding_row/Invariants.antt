@@ -1,10 +1,8 @@
 -- `tables::outstanding_row` meets its contract. The loop's invariant: the counts passed are filled.
-use borrow.Author.Rules.{rules}
 use Prim.Native.Nat.{suc, ◌-◌, ◌≤◌}
-use native.Mathlib.Omega.{arith}
 use Rattle.tree.specs.Sheet.{outstanding_of}
 use Rattle.sheet.specs.Terms.{bare}
-use Rattle.rows.proofs.Sweep.{Swept, swept_none, swept_more, swept_tab}
+use Rattle.rows.proofs.Sweep.{Swept}
 use Rattle.tables.proofs.outstanding_row.Given as goal
 
 abbrev pub invariant-loop-k : goal.invariant-loop-k

@@ -1,5 +1,4 @@
 -- `tables::outstandings_due` meets its contract.
-use borrow.Author.Rules.{rules}
 use mathlib.Core.Path.{sym, ◌∙◌}
 use Rattle.tables.proofs.Due.{cond_due, cond_undue}
 use Rattle.tables.proofs.outstandings_due.Goals as goal

@@ -2,10 +2,8 @@
 use Prim.Native.Nat.{ℕ, suc, ◌+◌, ◌-◌, ◌≤◌}
 use lib.ListN.{length}
 use native.Mathlib.Omega.{arith}
-use Rattle.rows.specs.Kernels.{payment_of}
 use Rattle.rows.specs.Rows.{row_of}
-use Rattle.sheet.specs.Terms.{bare}
-use Rattle.rows.proofs.Parts.{Passed, passed_none, passed_tab, passed_all, fits, part_long}
+use Rattle.rows.proofs.Parts.{passed_none, passed_tab, passed_all, fits, part_long}
 use Rattle.tables.proofs.payment_rows.Goals as goal
 
 pub loop-j-init : goal.loop-j-init

@@ -1,11 +1,8 @@
 -- `tables::payments` meets its contract. The loop's invariant: the tranches passed are filled.
-use Prim.Native.Nat.{ℕ, suc, ◌+◌, ◌-◌, ◌≤◌}
-use lib.ListN.{length}
-use native.Mathlib.Omega.{arith}
+use Prim.Native.Nat.{suc, ◌-◌}
 use Rattle.rows.specs.Kernels.{payment_of}
-use Rattle.rows.specs.Rows.{row_of}
 use Rattle.sheet.specs.Terms.{bare}
-use Rattle.rows.proofs.Parts.{Passed, passed_none, passed_tab, passed_all, fits, part_long}
+use Rattle.rows.proofs.Parts.{Passed}
 use Rattle.tables.proofs.payment_rows.Given as goal
 
 abbrev pub invariant-loop-j : goal.invariant-loop-j

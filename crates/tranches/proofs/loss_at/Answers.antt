@@ -1,5 +1,4 @@
 -- By the points of the tranche, or the whole loss of the pool.
-use borrow.Author.Rules.{rules}
 use mathlib.Core.Path.{sym, ◌∙◌}
 use native.Mathlib.Omega.{arith}
 use Rattle.cash.specs.Losses.{tranche_loss}

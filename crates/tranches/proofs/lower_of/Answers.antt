@@ -1,5 +1,4 @@
 -- `tranches::lower_of` meets its contract.
-use borrow.Author.Rules.{rules}
 use mathlib.Core.Path.{sym}
 use Rattle.sheet.specs.Terms.{bare}
 use Rattle.tranches.proofs.Losses.{lower_tranche, lower_index}

@@ -1,12 +1,11 @@
 -- `tranches::pool_losses` meets its contract. The loop's invariant: the counts passed have their loss, and the next one's is at hand with its remainder.
-use borrow.Author.Rules.{rules}
-use Prim.Native.Nat.{suc, ◌+◌, ◌-◌, ◌*◌, ◌/◌, ◌%◌, ◌≤◌, ◌<◌}
+use Prim.Native.Nat.{◌+◌, ◌-◌, ◌*◌, ◌/◌, ◌%◌, ◌≤◌, ◌<◌}
 use mathlib.Core.Path.{refl}
 use native.Mathlib.Omega.{arith}
 use Rattle.cash.specs.Units.{B}
 use Rattle.cash.specs.Losses.{pool_loss}
 use Rattle.rows.specs.Kernels.{pool_losses}
-use Rattle.rows.proofs.Sweep.{Swept, swept_none, swept_more, swept_tab}
+use Rattle.rows.proofs.Sweep.{swept_none, swept_more, swept_tab}
 use Rattle.tranches.proofs.Shares.{Shared, shared_none, shared_is, shared_fits, part_less, carried_most, more_most, shared_more}
 use Rattle.tranches.proofs.pool_losses.Goals as goal
 

@@ -1,6 +1,5 @@
 -- By the checks 1 to 10, then by the steps.
-use borrow.Author.Rules.{rules}
-use mathlib.Core.Path.{◌≡◌, sym, ◌∙◌}
+use mathlib.Core.Path.{◌≡◌, sym}
 use mathlib.Core.Bool.{false}
 use mathlib.Core.List.{[]}
 use Rattle.sheet.specs.Brought.{Brought}

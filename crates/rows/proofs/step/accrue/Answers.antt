@@ -1,8 +1,8 @@
 -- `rows::step::accrue` meets its contract. The loop's invariant: the entries passed have their premium, the others are as they were.
 use borrow.Author.Rules.{rules}
-use Prim.Native.Nat.{◌+◌, ◌-◌, ◌≤◌}
+use Prim.Native.Nat.{◌+◌}
 use mathlib.Core.Path.{◌≡◌, refl}
-use lib.ListN.{length, get_or}
+use lib.ListN.{get_or}
 use native.Mathlib.Omega.{arith}
 use native.Mathlib.Nat.{le_refl}
 use Rattle.cash.specs.Units.{B}
@@ -10,7 +10,7 @@ use Rattle.cash.proofs.Losses.{premium_payment_most}
 use Rattle.rows.specs.Kernels.{accrued_at}
 use Rattle.rows.proofs.Tables.{is_tab}
 use Rattle.rows.proofs.Nodes.{payment_none}
-use Rattle.rows.proofs.Sweep.{Swept, swept_none, swept_more, swept_all}
+use Rattle.rows.proofs.Sweep.{swept_none, swept_more, swept_all}
 use Rattle.rows.proofs.step.accrue.Goals as goal
 
 pub loop-i-init : goal.loop-i-init

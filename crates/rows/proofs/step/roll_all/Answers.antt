@@ -1,10 +1,8 @@
 -- `rows::step::roll_all` meets its contract. The loop's invariant: the tranches passed are rolled, the others as they were.
-use borrow.Author.Rules.{rules}
 use Prim.Native.Nat.{ℕ, suc, ◌+◌, ◌-◌, ◌≤◌}
 use lib.ListN.{length}
 use native.Mathlib.Omega.{arith}
-use Rattle.rows.specs.Kernels.{rolled_in}
-use Rattle.rows.proofs.Parts.{Passed, passed_none, passed_all, fits}
+use Rattle.rows.proofs.Parts.{passed_none, passed_all, fits}
 use Rattle.rows.proofs.Rolls.{tranche_fits, tranche_back}
 use Rattle.rows.proofs.step.roll_all.Goals as goal
 

@@ -1,5 +1,5 @@
 -- By the checks 1 to 12, then by the node, then by the two jumps.
-use borrow.Author.Rules.{rules, sfits_of}
+use borrow.Author.Rules.{sfits_of}
 use mathlib.Core.Path.{◌≡◌, sym, ◌∙◌, subst}
 use mathlib.Core.List.{List, []}
 use lib.Dec.{ltb}

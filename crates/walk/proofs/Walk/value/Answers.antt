@@ -1,5 +1,4 @@
 -- By the checks 1 to 12, then by the node.
-use borrow.Author.Rules.{rules}
 use mathlib.Core.Path.{◌≡◌, sym, ◌∙◌}
 use mathlib.Core.List.{[]}
 use lib.Dec.{ltb}

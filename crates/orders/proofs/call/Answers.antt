@@ -1,0 +1,28 @@
+-- `orders::call` meets its contract: each way out is a law of `OrderLaws`.
+use mathlib.Core.Path.{◌∙◌}
+use Rattle.sheet.specs.Brought.{Brought}
+use Rattle.sheet.specs.Spans.{brought_in}
+use Rattle.rows.specs.Rows.{Rows, rows_of}
+use Rattle.orders.proofs.OrderLaws.{open_calls, back_calls, reads_call}
+use Rattle.orders.proofs.call.Goals as goal
+
+pub returns-in-Open : goal.returns-in-Open
+returns-in-Open c =
+    let sheet : Brought = brought_in c.args.sheet c.args.numbers.now in
+    let rooms : Rows = rows_of c.args.defaults.now c.args.premiums.now in
+    open_calls c.args.order sheet c.args.register.now c.args.walk rooms
+    c.in-Open.is c.«open».ensures
+
+pub returns-in-Back : goal.returns-in-Back
+returns-in-Back c =
+    let sheet : Brought = brought_in c.args.sheet c.args.numbers.now in
+    let rooms : Rows = rows_of c.args.defaults.now c.args.premiums.now in
+    back_calls c.args.order sheet c.args.register.now c.args.walk rooms
+    c.in-Back.is c.back.ensures
+
+pub returns-in_default : goal.returns-in_default
+returns-in_default c =
+    let sheet : Brought = brought_in c.args.sheet c.args.numbers.now in
+    let rooms : Rows = rows_of c.args.defaults.now c.args.premiums.now in
+    c.read.ensures ∙ reads_call c.args.order sheet c.args.register.now c.args.walk rooms
+    c.in_default.not-Open c.in_default.not-Back
