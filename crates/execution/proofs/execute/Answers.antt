@@ -12,21 +12,25 @@ use Rattle.execution.proofs.EffectLaws.{
 }
 use Rattle.listings.proofs.Laws.{unknown_effect, cut_effect, enter_effect, act_effect}
 use borrow.Author.Rules.{rules}
-
 use Rattle.execution.proofs.execute.Goals as goal
 
 pub returns-in-Unknown : goal.returns-in-Unknown
 returns-in-Unknown c = let machine : Machine = machine_at c.args.from c.args.numbers.now c.args.register.now c.args.defaults.now c.args.premiums.now c.args.row.now in
-    let read = sym c.in-Unknown.ensures in record { limits = limits_stay refused c.requires.layout_limits; lengths = c.requires.room_lengths; executes = execution_as (unknown_effect c.args.from.at machine read) (refusal_executed 18 c.args.from _ refused); stays = λ z. refl }
+    let read = sym c.in-Unknown.ensures in record { limits = limits_stay c.refuse.ensures c.requires.layout_limits; lengths = c.requires.room_lengths; executes = execution_as (unknown_effect c.args.from.at machine read) (refusal_executed 18 c.args.from _ c.refuse.ensures); stays = λ z. refl }
 
 pub returns-in-CutShort : goal.returns-in-CutShort
 returns-in-CutShort c = let machine : Machine = machine_at c.args.from c.args.numbers.now c.args.register.now c.args.defaults.now c.args.premiums.now c.args.row.now in
-    let read = sym c.in-CutShort.ensures in record { limits = limits_stay refused c.requires.layout_limits; lengths = c.requires.room_lengths; executes = execution_as (cut_effect c.args.from.at machine read) (refusal_executed 19 c.args.from _ refused); stays = λ z. refl }
+    let read = sym c.in-CutShort.ensures in record { limits = limits_stay c.refuse-in-CutShort.ensures c.requires.layout_limits; lengths = c.requires.room_lengths; executes = execution_as (cut_effect c.args.from.at machine read) (refusal_executed 19 c.args.from _ c.refuse-in-CutShort.ensures); stays = λ z. refl }
 
 pub returns-in-Enter : goal.returns-in-Enter
 returns-in-Enter c = let machine : Machine = machine_at c.args.from c.args.numbers.now c.args.register.now c.args.defaults.now c.args.premiums.now c.args.row.now in
-    let read = sym c.in-Enter.ensures in record { limits = c.enter.ensures.limits; lengths = c.requires.room_lengths; executes = execution_as (enter_effect c.args.from.at machine read)
-              (c.enter.ensures.executes c.args.register.now c.args.defaults.now c.args.premiums.now c.args.row.now); stays = λ z. refl }
+    let read = sym c.in-Enter.ensures in record {
+      limits = c.enter.ensures.limits;
+      lengths = c.requires.room_lengths;
+      executes = execution_as (enter_effect c.args.from.at machine read)
+          (c.enter.ensures.executes c.args.register.now c.args.defaults.now c.args.premiums.now c.args.row.now);
+      stays = λ z. refl;
+    }
 
 pub returns-in-Act : goal.returns-in-Act
 returns-in-Act c = let machine : Machine = machine_at c.args.from c.args.numbers.now c.args.register.now c.args.defaults.now c.args.premiums.now c.args.row.now in

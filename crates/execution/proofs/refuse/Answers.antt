@@ -2,7 +2,6 @@
 use mathlib.Core.Path.{refl}
 use native.Mathlib.Omega.{arith}
 use borrow.Author.Rules.{rules}
-
 use Rattle.execution.proofs.refuse.Goals as goal
 
 pub returns : goal.returns

@@ -1,7 +1,6 @@
 -- `execution::start` meets its contract.
 use mathlib.Core.Bool.{false}
 use borrow.Author.Rules.{rules}
-
 use Rattle.execution.proofs.start.Goals as goal
 
 pub returns : goal.returns
