@@ -12,21 +12,19 @@ use Rattle.execution.specs.Executions.{machine_at}
 use Rattle.listings.specs.ListingFrom.{listing_from}
 use Rattle.listings.specs.RegisterFrom.{register_from}
 use Rattle.interpreter.proofs.LoopInvariant.{Invariant, start_limits, holds_at_start, line_fits, holds_on, finished_last, finished_all}
-
 use Rattle.interpreter.proofs.interpret.Goals as goal
 
 pub start-progress-requires : goal.start-progress-requires
 start-progress-requires c = tt
 
 pub loop-progress-init : goal.loop-progress-init
-loop-progress-init c =
-    (
-      holds_at_start c.args.deck.now c.args.out.now c.args.numbers.now c.args.register.now c.args.defaults.now
-          c.args.premiums.now c.args.row.now c.start-progress.ensures c.requires.numbers_len.0 c.requires.numbers_len.1,
-      start_limits c.args.numbers.now c.start-progress.ensures c.requires.numbers_len.0 c.requires.numbers_len.2,
-      c.requires.room_lengths,
-      refl,
-    )
+loop-progress-init c = (
+  holds_at_start c.args.deck.now c.args.out.now c.args.numbers.now c.args.register.now c.args.defaults.now
+      c.args.premiums.now c.args.row.now c.start-progress.ensures c.requires.numbers_len.0 c.requires.numbers_len.1,
+  start_limits c.args.numbers.now c.start-progress.ensures c.requires.numbers_len.0 c.requires.numbers_len.2,
+  c.requires.room_lengths,
+  refl,
+)
 
 pub execute-progress-requires : goal.execute-progress-requires
 execute-progress-requires c = record { at_in_bounds = c.loop-progress-test.true; layout_limits = c.loop-progress.invariant.1; room_lengths = c.loop-progress.invariant.2; end_in_bounds = line_fits c.loop-progress.invariant.0 c.loop-progress-test.true c.requires.deck_in_bounds }
@@ -37,7 +35,7 @@ shape_of-numbers-then-progress c =
 
 pub shape_of-register-then-progress : goal.shape_of-register-then-progress
 shape_of-register-then-progress c =
-    c.execute-progress.kept.1.1.1.0 ∙ c.loop-progress.invariant.3
+    c.execute-progress.auto.register ∙ c.loop-progress.invariant.3
 
 pub shape_of-defaults-then-progress : goal.shape_of-defaults-then-progress
 shape_of-defaults-then-progress c =
@@ -53,7 +51,7 @@ shape_of-row-then-progress c =
 
 pub shape_of-out-then-progress : goal.shape_of-out-then-progress
 shape_of-out-then-progress c =
-    c.execute-progress.kept.1.1.1.1.1.1.1.0 ∙ wrote_long c.loop-progress.invariant.0.wrote
+    c.execute-progress.auto.out ∙ wrote_long c.loop-progress.invariant.0.wrote
 
 pub returns-then-progress : goal.returns-then-progress
 returns-then-progress c = let printed = finished_last _ _ _ _ _ _ _ _ _ c.execute-progress.result c.loop-progress-test.true c.requires.deck_in_bounds c.execute-progress.ensures.executes c.loop-progress.invariant.0 c.if-progress.true in
@@ -64,13 +62,12 @@ loop-progress-smaller c =
     omega (arith, c.loop-progress-test.true, c.execute-progress.ensures.executes.onward c.if-progress.false)
 
 pub loop-progress-preserved : goal.loop-progress-preserved
-loop-progress-preserved c =
-    (
-      holds_on _ _ _ _ _ _ _ _ _ c.execute-progress.result c.loop-progress-test.true c.requires.deck_in_bounds c.execute-progress.ensures.executes c.loop-progress.invariant.0 c.if-progress.false,
-      c.execute-progress.ensures.limits,
-      c.execute-progress.ensures.lengths,
-      c.execute-progress.kept.1.1.1.0 ∙ c.loop-progress.invariant.3,
-    )
+loop-progress-preserved c = (
+  holds_on _ _ _ _ _ _ _ _ _ c.execute-progress.result c.loop-progress-test.true c.requires.deck_in_bounds c.execute-progress.ensures.executes c.loop-progress.invariant.0 c.if-progress.false,
+  c.execute-progress.ensures.limits,
+  c.execute-progress.ensures.lengths,
+  c.execute-progress.auto.register ∙ c.loop-progress.invariant.3,
+)
 
 pub shape_of-numbers : goal.shape_of-numbers
 shape_of-numbers c =

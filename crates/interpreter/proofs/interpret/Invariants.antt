@@ -12,7 +12,6 @@ use Rattle.execution.specs.Executions.{machine_at}
 use Rattle.listings.specs.ListingFrom.{listing_from}
 use Rattle.listings.specs.RegisterFrom.{register_from}
 use Rattle.interpreter.proofs.LoopInvariant.{Invariant, start_limits, holds_at_start, line_fits, holds_on, finished_last, finished_all}
-
 use Rattle.interpreter.proofs.interpret.Given as goal
 
 abbrev pub invariant-loop-progress : goal.invariant-loop-progress
