@@ -1,4 +1,3 @@
 // Decks with their listings, byte by byte: see specs/ and proofs/.
 
 #![tactic(auto)]
-

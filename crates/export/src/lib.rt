@@ -12,8 +12,8 @@ ghost use Rattle.walk.specs.Answers.{said_of, said_by};
 ghost use Rattle.rows.specs.Rows.{rows_of};
 ghost use Rattle.walk.specs.Calls.{open_call, back_call, value_call, ratio_call, forward_call};
 ghost use Rattle.packed.specs.Promise.{ours};
-ghost use Rattle.book.specs.Promise.{ours as ourBook};
-ghost use Rattle.fairness.specs.Promise.{ours as ourTurns};
+ghost use Rattle.book.specs.Promise.{ours as our_book};
+ghost use Rattle.fairness.specs.Promise.{ours as our_turns};
 ghost use Rattle.export.specs.Bytes.{bytes_in};
 ghost use Rattle.returns.specs.Returns.{opened, moved, valued, hedged, returned};
 
@@ -203,9 +203,9 @@ pub extern "C" fn lavroudem_write_packed(image: &mut [u8], coupon: u64) -> u8
 // Writes the exact totals of a book, in one line, at the start of what is lent.
 #[unsafe(no_mangle)]
 pub extern "C" fn lavroudem_book(nominals: &[i64], values: &[i64], out: &mut [u8]) -> Booked
-    ensures said { result.number ≡ (ourBook nominals.now values.now out.old).number }
-    ensures told { result.length ≡ get_or (ourBook nominals.now values.now out.old).values 0 0 }
-    ensures leaves { out.new ≡ (ourBook nominals.now values.now out.old).left }
+    ensures said { result.number ≡ (our_book nominals.now values.now out.old).number }
+    ensures told { result.length ≡ get_or (our_book nominals.now values.now out.old).values 0 0 }
+    ensures leaves { out.new ≡ (our_book nominals.now values.now out.old).left }
 {
     let report = book::total(nominals, values, out);
     Booked {
@@ -217,11 +217,11 @@ pub extern "C" fn lavroudem_book(nominals: &[i64], values: &[i64], out: &mut [u8
 // Fills a list with the places of the walks whose turn it is, and takes a step off for each; its answer always has the place for the next call.
 #[unsafe(no_mangle)]
 pub extern "C" fn lavroudem_turns(table: &mut [Turn], place: usize, list: &mut [u8]) -> Allotted
-    ensures { (result.number ≡ (ourTurns table.old place list.old).number)
-        × ((result.count ≡ get_or (ourTurns table.old place list.old).values 0 0)
-        × ((result.place ≡ (ourTurns table.old place list.old).place)
-        × ((table.new ≡ (ourTurns table.old place list.old).table)
-        × (list.new ≡ (ourTurns table.old place list.old).list)))) }
+    ensures { (result.number ≡ (our_turns table.old place list.old).number)
+        × ((result.count ≡ get_or (our_turns table.old place list.old).values 0 0)
+        × ((result.place ≡ (our_turns table.old place list.old).place)
+        × ((table.new ≡ (our_turns table.old place list.old).table)
+        × (list.new ≡ (our_turns table.old place list.old).list)))) }
 {
     let answer = turns::serve(table, place, list);
     returns::allotted_by(answer, place)
