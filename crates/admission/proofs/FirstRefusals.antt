@@ -64,45 +64,45 @@ module _ (x : Brought) (g : List ℕ) (lent : Bool) where
 -- ---- check 11
 
 -- Of an open walk with the sheet's number, the position decides.
-pub walk_steps : (x : Brought) (isOpen : Bool) (number position : ℕ) → isOpen ≡ true → number ≡ x.number →
-    ltb x.sheet.steps position ≡ off_walk x isOpen number position
+pub walk_steps : (x : Brought) (is_open : Bool) (number position : ℕ) → is_open ≡ true → number ≡ x.number →
+    ltb x.sheet.steps position ≡ off_walk x is_open number position
 unfolding off_walk
-walk_steps x isOpen number position e h = simp (e, eq-eqb number x.number h)
+walk_steps x is_open number position e h = simp (e, eq-eqb number x.number h)
 
 -- The check rests on the pool and the walk alone.
-pub walk_told : (pool : Pool) (attachments starts hazards discounts accruals elapsed coupons : List ℕ) (isOpen : Bool) (number position : ℕ) {r : Bool} →
-    r ≡ off_walk (brought pool [] [] [] [] [] [] []) isOpen number position → r ≡ off_walk (brought pool attachments starts hazards discounts accruals elapsed coupons) isOpen number position
+pub walk_told : (pool : Pool) (attachments starts hazards discounts accruals elapsed coupons : List ℕ) (is_open : Bool) (number position : ℕ) {r : Bool} →
+    r ≡ off_walk (brought pool [] [] [] [] [] [] []) is_open number position → r ≡ off_walk (brought pool attachments starts hazards discounts accruals elapsed coupons) is_open number position
 unfolding off_walk
-walk_told pool attachments starts hazards discounts accruals elapsed coupons isOpen number position e = e
+walk_told pool attachments starts hazards discounts accruals elapsed coupons is_open number position e = e
 
 -- ---- checks 11 and 12 behind the first ten
 
-module _ (x : Brought) (g : List ℕ) (isOpen : Bool) (number position : ℕ) (l : Rows) (lent : Bool) (same : pool_bad x.sheet ≡ false → lent ≡ rows_bad x g l) where
-  pub twelve_ten : {f : Refusal} → first (ten_tests x g lent []) ≡ Refused f → first (walk_tests x g isOpen number position l []) ≡ Refused f
+module _ (x : Brought) (g : List ℕ) (is_open : Bool) (number position : ℕ) (l : Rows) (lent : Bool) (same : pool_bad x.sheet ≡ false → lent ≡ rows_bad x g l) where
+  pub twelve_ten : {f : Refusal} → first (ten_tests x g lent []) ≡ Refused f → first (walk_tests x g is_open number position l []) ≡ Refused f
   unfolding walk_tests
   twelve_ten e = ten_refused x g (rows_bad x g l) _ (sym (ten_alike x g lent (rows_bad x g l) [] same) ∙ e)
 
   module _ (e : first (ten_tests x g lent []) ≡ Fine) where
-    twelve_on : first (walk_tests x g isOpen number position l []) ≡ first ((off_walk x isOpen number position, Refusal.NoWalk) ∷ (soiled x.sheet position l.defaults l.premiums, Refusal.OverCeiling) ∷ [])
+    twelve_on : first (walk_tests x g is_open number position l []) ≡ first ((off_walk x is_open number position, Refusal.NoWalk) ∷ (soiled x.sheet position l.defaults l.premiums, Refusal.OverCeiling) ∷ [])
     unfolding walk_tests
     twelve_on = ten_fine x g (rows_bad x g l) _ (sym (ten_alike x g lent (rows_bad x g l) [] same) ∙ e)
 
-    pub twelve_walk : off_walk x isOpen number position ≡ true → first (walk_tests x g isOpen number position l []) ≡ Refused Refusal.NoWalk
+    pub twelve_walk : off_walk x is_open number position ≡ true → first (walk_tests x g is_open number position l []) ≡ Refused Refusal.NoWalk
     twelve_walk b = twelve_on ∙ first_met _ _ _ b
 
-    pub twelve_over : off_walk x isOpen number position ≡ false → soiled x.sheet position l.defaults l.premiums ≡ true → first (walk_tests x g isOpen number position l []) ≡ Refused Refusal.OverCeiling
+    pub twelve_over : off_walk x is_open number position ≡ false → soiled x.sheet position l.defaults l.premiums ≡ true → first (walk_tests x g is_open number position l []) ≡ Refused Refusal.OverCeiling
     twelve_over b s = twelve_on ∙ first_passed _ _ _ b ∙ first_met _ _ _ s
 
-    pub twelve_clean : off_walk x isOpen number position ≡ false → soiled x.sheet position l.defaults l.premiums ≡ false → first (walk_tests x g isOpen number position l []) ≡ Fine
+    pub twelve_clean : off_walk x is_open number position ≡ false → soiled x.sheet position l.defaults l.premiums ≡ false → first (walk_tests x g is_open number position l []) ≡ Fine
     twelve_clean b s = twelve_on ∙ first_passed _ _ _ b ∙ first_passed _ _ _ s ∙ first_none
 
-module _ (x : Brought) (g : List ℕ) (isOpen : Bool) (number position : ℕ) (l : Rows) (more : List Test) where
-  twelve_joined : walk_tests x g isOpen number position l more ≡ walk_tests x g isOpen number position l [] ++ more
+module _ (x : Brought) (g : List ℕ) (is_open : Bool) (number position : ℕ) (l : Rows) (more : List Test) where
+  twelve_joined : walk_tests x g is_open number position l more ≡ walk_tests x g is_open number position l [] ++ more
   unfolding walk_tests ten_tests sheet_tests
   twelve_joined = refl
 
-  pub twelve_refused : {f : Refusal} → first (walk_tests x g isOpen number position l []) ≡ Refused f → first (walk_tests x g isOpen number position l more) ≡ Refused f
+  pub twelve_refused : {f : Refusal} → first (walk_tests x g is_open number position l []) ≡ Refused f → first (walk_tests x g is_open number position l more) ≡ Refused f
   twelve_refused e = ap first twelve_joined ∙ joined_refused _ more _ e
 
-  pub twelve_fine : first (walk_tests x g isOpen number position l []) ≡ Fine → first (walk_tests x g isOpen number position l more) ≡ first more
+  pub twelve_fine : first (walk_tests x g is_open number position l []) ≡ Fine → first (walk_tests x g is_open number position l more) ≡ first more
   twelve_fine e = ap first twelve_joined ∙ joined_fine _ more e

@@ -25,11 +25,11 @@ module _ (x : Brought) (g : List ℕ) where
   row_fine q = or_fine (differs_fine (length g) 256) (differs_fine (length q) _)
 
 -- 11, by the parts of a walk.
-pub off_fine : (x : Brought) (isOpen : Bool) (number position : ℕ) →
-    (off_walk x isOpen number position ≡ false) ↔ (((isOpen ≡ true) × (number ≡ x.number)) × (position ≤ x.sheet.steps))
+pub off_fine : (x : Brought) (is_open : Bool) (number position : ℕ) →
+    (off_walk x is_open number position ≡ false) ↔ (((is_open ≡ true) × (number ≡ x.number)) × (position ≤ x.sheet.steps))
 unfolding off_walk
-off_fine x isOpen number position =
-    or_fine (or_fine (opened_fine isOpen) (differs_fine number x.number)) (most_fine x.sheet.steps position)
+off_fine x is_open number position =
+    or_fine (or_fine (opened_fine is_open) (differs_fine number x.number)) (most_fine x.sheet.steps position)
   where
     opened_fine : (b : Bool) → (not b ≡ false) ↔ (b ≡ true)
     opened_fine b = (not-false b, ap not)

@@ -29,7 +29,7 @@ is_unissued Status.Withdrawn = false
 
 -- 11: by whether the walk is open, its number and its position
 unfoldable pub off_walk : Brought → Bool → ℕ → ℕ → Bool
-off_walk x isOpen number position = not isOpen || differs number x.number || ltb x.sheet.steps position
+off_walk x is_open number position = not is_open || differs number x.number || ltb x.sheet.steps position
 
 -- Checks 1 to 10 with 21 and 25, and then more. `lent` tells whether a list lent beside the sheet's own has another length.
 unfoldable pub ten_tests : Brought → List ℕ → Bool → List Test → List Test
@@ -39,6 +39,6 @@ ten_tests x register lent more =
 
 -- Checks 1 to 12, and then more.
 unfoldable pub walk_tests : Brought → List ℕ → Bool → ℕ → ℕ → Rows → List Test → List Test
-walk_tests x register isOpen number position rows more =
+walk_tests x register is_open number position rows more =
     ten_tests x register (rows_bad x register rows)
-    ((off_walk x isOpen number position, NoWalk) ∷ (soiled x.sheet position rows.defaults rows.premiums, OverCeiling) ∷ more)
+    ((off_walk x is_open number position, NoWalk) ∷ (soiled x.sheet position rows.defaults rows.premiums, OverCeiling) ∷ more)

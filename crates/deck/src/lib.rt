@@ -4,7 +4,7 @@
 
 ghost use Rattle.std.specs.Prelude.{◌≡◌};
 ghost use Rattle.listings.specs.Withdrawals.{KeepsWithdrawn};
-ghost use Rattle.deck.specs.Printing.{room as roomOf, printout, printing, printing_on, register_left};
+ghost use Rattle.deck.specs.Printing.{room as room_of, printout, printing, printing_on, register_left};
 
 use entries::{NUMBERS, STARTS};
 use sheet::{COUNTS_MOST, ROW_MOST};
@@ -21,7 +21,7 @@ pub enum Ran {
 
 // The room for the listing of a deck of so many bytes.
 pub fn room(bytes: usize) -> usize
-    ensures { result ≡ roomOf bytes }
+    ensures { result ≡ room_of bytes }
 {
     if bytes < MOST {
         return 32 * bytes + 96;

@@ -125,44 +125,44 @@ module _ {bytes : List ℕ} {entry : Entry} {held : Draft → ℕ} (c : Counted 
   -- ---- many
 
   -- Where the run stands after n of them.
-  record After (deck : List ℕ) (n commandsLeft at : ℕ) (s : Machine) : Type 0 where
+  record After (deck : List ℕ) (n commands_left at : ℕ) (s : Machine) : Type 0 where
     state : Machine
-    prints : listing_from (n + commandsLeft) deck at s ≡ listing_from commandsLeft deck (at + length (times n bytes)) state
+    prints : listing_from (n + commands_left) deck at s ≡ listing_from commands_left deck (at + length (times n bytes)) state
     holds : held state.draft ≡ held s.draft + n
     register : state.register ≡ s.register
 
-  after : (n commandsLeft : ℕ) (deck a rest : List ℕ) (at : ℕ) (s : Machine) → deck ≡ a ++ (times n bytes ++ rest) → at ≡ length a →
-      held s.draft + n ≤ 3650 → After deck n commandsLeft at s
+  after : (n commands_left : ℕ) (deck a rest : List ℕ) (at : ℕ) (s : Machine) → deck ≡ a ++ (times n bytes ++ rest) → at ≡ length a →
+      held s.draft + n ≤ 3650 → After deck n commands_left at s
   unfolding times
-  after zero commandsLeft deck a rest at s e p h =
+  after zero commands_left deck a rest at s e p h =
       record {
         state = s;
-        prints = (λ j. listing_from (zero-add commandsLeft j) deck (sym (add-zero at) j) s);
+        prints = (λ j. listing_from (zero-add commands_left j) deck (sym (add-zero at) j) s);
         holds = sym (add-zero _);
         register = refl;
       }
-  after (suc n) commandsLeft deck a rest at s e p h =
+  after (suc n) commands_left deck a rest at s e p h =
       let split : deck ≡ a ++ (bytes ++ (times n bytes ++ rest)) = e ∙ ap (λ (l : List ℕ). a ++ l) (append_assoc bytes (times n bytes) rest) in
       let long : length deck ≡ length a + (length bytes + length (times n bytes ++ rest)) = ap length split ∙ simp length-append (omega arith) in
       let reads : command_at deck at ≡ Enter entry =
       (λ j. command_at (split j) (p j)) ∙ command_behind a (bytes ++ (times n bytes ++ rest)) ∙ c.read (times n bytes ++ rest) in
       let goes : effect_of (command_at deck at) at s ≡ go_on [] (at + length bytes) (entered s) =
       ap (λ (k : Command). effect_of k at s) reads ∙ entry_on at s (omega arith) in
-      let one : listing_from (suc (n + commandsLeft)) deck at s ≡ listing_from (n + commandsLeft) deck (at + length bytes) (entered s) =
-      on deck at s (n + commandsLeft) [] (at + length bytes) (entered s) (omega (arith, c.some)) goes in
+      let one : listing_from (suc (n + commands_left)) deck at s ≡ listing_from (n + commands_left) deck (at + length bytes) (entered s) =
+      on deck at s (n + commands_left) [] (at + length bytes) (entered s) (omega (arith, c.some)) goes in
       let more = c.more s.draft in
       let q : at + length bytes ≡ length (a ++ bytes) = simp length-append (omega arith) in
       let rest_of =
-      after n commandsLeft deck (a ++ bytes) rest (at + length bytes) (entered s) (split ∙ sym (append_assoc a bytes (times n bytes ++ rest))) q
+      after n commands_left deck (a ++ bytes) rest (at + length bytes) (entered s) (split ∙ sym (append_assoc a bytes (times n bytes ++ rest))) q
       (omega arith) in
       let place : at + length bytes + length (times n bytes) ≡ at + length (bytes ++ times n bytes) = simp length-append (omega arith) in
       record {
         state = rest_of.state;
         prints =
-            ap (λ (k : ℕ). listing_from k deck at s) (suc-add n commandsLeft)
+            ap (λ (k : ℕ). listing_from k deck at s) (suc-add n commands_left)
             ∙ one
             ∙ rest_of.prints
-            ∙ ap (λ (k : ℕ). listing_from commandsLeft deck k rest_of.state) place;
+            ∙ ap (λ (k : ℕ). listing_from commands_left deck k rest_of.state) place;
         holds = omega (arith, rest_of.holds);
         register = rest_of.register;
       }
@@ -192,9 +192,9 @@ module _ {bytes : List ℕ} {entry : Entry} {held : Draft → ℕ} (c : Counted 
 
     from_there : length deck ≤ 65536 → listing deck ≡ listing_from left deck there full.state
     from_there h =
-        let commandsLeft : length deck ≡ n + left = omega (arith, long, many_long n) in
+        let commands_left : length deck ≡ n + left = omega (arith, long, many_long n) in
         sym (Laws.sized _ deck h)
-        ∙ ap (λ (k : ℕ). listing_from k deck 0 fresh_machine) commandsLeft
+        ∙ ap (λ (k : ℕ). listing_from k deck 0 fresh_machine) commands_left
         ∙ full.prints
         ∙ ap (λ (k : ℕ). listing_from left deck k full.state) (zero-add there)
 
@@ -212,9 +212,9 @@ module _ {bytes : List ℕ} {entry : Entry} {held : Draft → ℕ} (c : Counted 
       let less : ℕ = left n few issue_seven - 1 in
       let goes : effect_of (command_at d at) at s ≡ go_on issue_line (at + 2) t =
       ap (λ (k : Command). effect_of k at s) (read_there n few issue_seven ∙ issue_read) ∙ issue_on_lem at s (full n few issue_seven).register in
-      let commandsLeft : left n few issue_seven ≡ suc less = omega (arith, size, many_long n) in
+      let commands_left : left n few issue_seven ≡ suc less = omega (arith, size, many_long n) in
       from_there n few issue_seven (omega (arith, size))
-      ∙ ap (λ (k : ℕ). listing_from k d at s) commandsLeft
+      ∙ ap (λ (k : ℕ). listing_from k d at s) commands_left
       ∙ on d at s less issue_line (at + 2) t (omega (arith, size)) goes
       ∙ ap (λ (l : List ℕ). issue_line ++ l) (past d (at + 2) t less (omega (arith, size)))
 
@@ -229,9 +229,9 @@ module _ {bytes : List ℕ} {entry : Entry} {held : Draft → ℕ} (c : Counted 
       let goes : effect_of (command_at d at) at s ≡ stop (deck_line 20 at) =
       ap (λ (k : Command). effect_of k at s) (read_there 3650 few bytes ∙ ap (λ (l : List ℕ). command_at l 0) (sym (append-nil bytes)) ∙ c.read [])
       ∙ entry_last at s (omega (arith, (full 3650 few bytes).holds)) in
-      let commandsLeft : left 3650 few bytes ≡ suc less = omega (arith, size, many_long 3650, c.some) in
+      let commands_left : left 3650 few bytes ≡ suc less = omega (arith, size, many_long 3650, c.some) in
       from_there 3650 few bytes (omega (arith, size))
-      ∙ ap (λ (k : ℕ). listing_from k d at s) commandsLeft
+      ∙ ap (λ (k : ℕ). listing_from k d at s) commands_left
       ∙ last d at s less (deck_line 20 at) (omega (arith, size, c.some)) goes
 
 -- ---- steps, and elapsed fractions

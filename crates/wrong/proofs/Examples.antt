@@ -5,14 +5,14 @@ use Rattle.tree.specs.Sheet.{spanning}
 use Rattle.refusals.proofs.Limits.{limits}
 use Rattle.walk.specs.Risk.{hedging}
 use Rattle.walk.specs.Power.{register_after_cut, event_leaves, withdrew, state_after_events, ever_withdrew}
-use Rattle.wrong.specs.Examples.{deck as deckCatalogue, parted, topped, changing, earning, paid_early, answers_of, Deck, TranchesAdd, IndexAdds, PeriodsWalked, ElapsedWalked, NegativeWalked, Refusals, Ratios, Cuts}
+use Rattle.wrong.specs.Examples.{deck as deck_catalogue, parted, topped, changing, earning, paid_early, answers_of, Deck, TranchesAdd, IndexAdds, PeriodsWalked, ElapsedWalked, NegativeWalked, Refusals, Ratios, Cuts}
 use Rattle.wrong.proofs.Computing.{computed}
 
 pub deck : Deck
 unfolding computed answers_of
 deck =
     record {
-      within = ((limits (deckCatalogue.sheet 7) false).0 refl).0;
+      within = ((limits (deck_catalogue.sheet 7) false).0 refl).0;
       listing = refl;
       walked = record { opened = refl; walked = refl; own = refl };
       rows = refl;
