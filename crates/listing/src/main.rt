@@ -1,11 +1,12 @@
-// Reads a deck from standard input and prints its listing. A program has no status to end with, so what goes wrong is told on standard error.
+// Reads a deck from standard input and prints its listing. What goes wrong is told on standard error, and the status is 0 all the same.
 
 #![tactic(auto)]
 
 ghost use Rattle.std.specs.Prelude.{◌≡◌, ◌≤◌, length};
 
 use deck::Ran;
-use libc::{STDERR_FILENO, STDIN_FILENO, STDOUT_FILENO};
+use std::io;
+use std::io::Read;
 
 // Room for a deck of the most bytes, and one more.
 fn input_room() -> [u8; 65537]
@@ -29,28 +30,29 @@ pub struct Reading {
 }
 
 // How many bytes a read has brought, of at most so many. One that failed has brought none.
-fn brought(answer: isize, most: usize) -> usize
+fn brought(answer: &io::Result<usize>, most: usize) -> usize
     ensures { result ≤ most }
 {
-    if answer < 0 {
-        return 0;
+    match answer {
+        Ok(bytes) => most.min(*bytes),
+        Err(_) => 0,
     }
-    let bytes = answer as usize;
-    if bytes < most { bytes } else { most }
 }
 
-// Reads until the room is full or the input ends. (`io::read_full` takes a read that fails for the end.)
-fn read_all(input: &mut [u8]) -> Reading
+// Reads until the room is full or the input ends. (`read_exact` does not tell how many bytes came before the end.)
+fn read_all(rt: &impl Input, input: &mut [u8]) -> Reading
     ensures { result.bytes ≤ length input.new }
 {
+    let mut reader = rt.reader();
     let mut done = 0;
     while done < input.len() {
-        let answer = libc::read(STDIN_FILENO, &mut input[done..]);
-        let more = brought(answer, input.len() - done);
+        let most = input.len() - done;
+        let answer = reader.read(&mut input[done..]);
+        let more = brought(&answer, most);
         if more == 0 {
             return Reading {
                 bytes: done,
-                whole: answer == 0,
+                whole: answer.is_ok(),
             };
         }
         done += more;
@@ -62,27 +64,24 @@ fn read_all(input: &mut [u8]) -> Reading
 }
 
 // Prints the listing of the first bytes of a deck, and answers whether all of it was written.
-fn print(input: &[u8], out: &mut [u8]) -> bool {
+fn print(rt: &impl Print, input: &[u8], out: &mut [u8]) -> bool {
     let ran = deck::run(input, out);
     if let Ran::Printed(end) = ran {
-        return io::write_all(STDOUT_FILENO, &out[..end]);
+        return rt.write_all(&out[..end]).is_ok();
     }
     false
 }
 
-fn main() {
+fn main(rt: HostRuntime) {
     let mut input = input_room();
     let mut out = output_room();
-    let reading = read_all(&mut input);
+    let reading = read_all(&rt, &mut input);
     if !reading.whole {
-        io::write_all(
-            STDERR_FILENO,
-            b"listing: the input could not be read to its end\n",
-        );
+        let _ = eprintln!(rt; "listing: the input could not be read to its end");
         return;
     }
     let n = reading.bytes;
-    if !print(&input[..n], &mut out) {
-        io::write_all(STDERR_FILENO, b"listing: the listing was cut short\n");
+    if !print(&rt, &input[..n], &mut out) {
+        let _ = eprintln!(rt; "listing: the listing was cut short");
     }
 }
