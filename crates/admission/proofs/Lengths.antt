@@ -38,8 +38,8 @@ off_fine x is_open number position =
 pub rows_premium : (x : Brought) (g : List ℕ) (l : Rows) (n : ℕ) → n ≡ row_length x.sheet → length g ≡ 256 → length l.defaults ≡ n →
     differs (length l.premiums) n ≡ rows_bad x g l
 unfolding rows_bad
-rows_premium x g l n n-is e h =
-    ap (differs (length l.premiums)) n-is ∙ simp (eq-eqb (length g) 256 e, eq-eqb (length l.defaults) (row_length x.sheet) (h ∙ n-is))
+rows_premium x g l n n_is e h =
+    ap (differs (length l.premiums)) n_is ∙ simp (eq-eqb (length g) 256 e, eq-eqb (length l.defaults) (row_length x.sheet) (h ∙ n_is))
 
 pub row_row : (x : Brought) (g q : List ℕ) → length g ≡ 256 → differs (length q) (x.sheet.names + 1) ≡ row_bad x g q
 unfolding row_bad

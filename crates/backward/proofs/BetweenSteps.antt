@@ -41,7 +41,7 @@ pub record StepsDone (x : Terms) (d p : List ℕ) (position count : ℕ) (starts
 
 -- Before the first step: the lists are parts of the sheet's numbers, and the tables are filled from them.
 module _ (pool : Pool) (attachments starts hazards discounts accruals elapsed a b h v c g : List ℕ)
-    (a-is : a ≡ attachments) (b-is : b ≡ starts) (h-is : h ≡ hazards) (v-is : v ≡ discounts) (c-is : c ≡ accruals) (g-is : g ≡ elapsed) where
+    (a_is : a ≡ attachments) (b_is : b ≡ starts) (h_is : h ≡ hazards) (v_is : v ≡ discounts) (c_is : c ≡ accruals) (g_is : g ≡ elapsed) where
   abbrev x : Terms
   x = terms_of pool attachments starts hazards discounts accruals elapsed
 
@@ -54,17 +54,17 @@ module _ (pool : Pool) (attachments starts hazards discounts accruals elapsed a 
   steps_none d p paid left before none position count r e f l o z n =
       record {
         ready = r;
-        starts_is = b-is;
-        hazards_is = h-is;
-        discounts_is = v-is;
-        accruals_is = c-is;
-        elapsed_is = g-is;
+        starts_is = b_is;
+        hazards_is = h_is;
+        discounts_is = v_is;
+        accruals_is = c_is;
+        elapsed_is = g_is;
         paid_is =
-            e ∙ (λ t. row_of (bare pool (a-is t)) (payment_of (bare pool (a-is t))))
+            e ∙ (λ t. row_of (bare pool (a_is t)) (payment_of (bare pool (a_is t))))
             ∙ ap (row_of (bare pool attachments)) (payment_bare pool attachments starts hazards discounts accruals elapsed);
         left_is =
             left_filled x r.limits.tranches position count left before l o
-            (f ∙ (λ t. cond (due_in (c-is t) position count || due_in (g-is t) position count) (row_of (bare pool (a-is t)) (outstanding_of (bare pool (a-is t)))) before)
+            (f ∙ (λ t. cond (due_in (c_is t) position count || due_in (g_is t) position count) (row_of (bare pool (a_is t)) (outstanding_of (bare pool (a_is t)))) before)
             ∙ ap (λ (o : ℕ → ℕ → ℕ). cond (due_in accruals position count || due_in elapsed position count) (row_of (bare pool attachments) o) before)
             (outstanding_bare pool attachments starts hazards discounts accruals elapsed));
         earned_is = none_earned (suc x.tranches) x.names none left z n;
@@ -88,7 +88,7 @@ module _ {x : Terms} {d p : List ℕ} {position count : ℕ} {starts hazards dis
   earned_long = ap length g.earned_is ∙ length_grid _ _ _
 
   -- the step that is next leads to i
-  module _ (i : ℕ) (i-is : i ≡ position - (done + 1)) (more : done < count) where
+  module _ (i : ℕ) (i_is : i ≡ position - (done + 1)) (more : done < count) where
     next_rollable : Rollable x ds ps (suc i) (count - done)
     next_rollable =
         let e : position - done ≡ suc i = omega (arith, g.ready.count_most) in
@@ -123,7 +123,7 @@ module _ {x : Terms} {d p : List ℕ} {position count : ℕ} {starts hazards dis
     accrued_is : (es : List ℕ) → es ≡ tab (length ps) (accrued_at (get_or accruals i 0) left ps)
         → es ≡ tab (length ps) (accrued_at (get_or x.accruals i 0) (row_of x (outstanding_of x)) ps)
     accrued_is es e =
-        accrued_left x position count left g.left_is done i more i-is ps es next_rollable.premiums_long (rw g.accruals_is at e)
+        accrued_left x position count left g.left_is done i more i_is ps es next_rollable.premiums_long (rw g.accruals_is at e)
 
     -- the table filled so
     abbrev Filled : List ℕ → Type 0
@@ -154,9 +154,9 @@ module _ {x : Terms} {d p : List ℕ} {position count : ℕ} {starts hazards dis
         rw (e, g.starts_is, g.hazards_is) f
 
     -- those that it is lent
-    module _ (into : List ℕ) (into-is : into ≡ hazards_at x.names starts hazards (i + 1)) where
+    module _ (into : List ℕ) (into_is : into ≡ hazards_at x.names starts hazards (i + 1)) where
       into_there : into ≡ hazards_into x (suc i)
-      into_there = into-is ∙ (λ t. hazards_at x.names (g.starts_is t) (g.hazards_is t) (add-one i t))
+      into_there = into_is ∙ (λ t. hazards_at x.names (g.starts_is t) (g.hazards_is t) (add-one i t))
 
       pub roll_fits : RowsFit (suc x.tranches) x.names ds into (get_or discounts i 0) paid
       roll_fits =

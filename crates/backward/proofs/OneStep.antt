@@ -83,11 +83,11 @@ module _ (x : Terms) (l : TermsWithin x) (i : ℕ) where
       → zs ≡ rolled x (premium_of x) i row
   unfolding premium_of premium_cash elapsed_cash accrual_of elapsed_of
   premium_step row out es earned zs long o z e q =
-      let at-node : (j k : ℕ) → j ≤ x.tranches → k ≤ x.names → node_in x es j k ≡ node_in x row j k + premium_payment (get_or x.accruals i 0) (outstanding_of x j k) =
+      let at_node : (j k : ℕ) → j ≤ x.tranches → k ≤ x.names → node_in x es j k ≡ node_in x row j k + premium_payment (get_or x.accruals i 0) (outstanding_of x j k) =
       accrued_node x row out es (get_or x.accruals i 0) long o e in
       kernel (premium_of x) row es earned zs
-      (λ j k p h. omega (arith, z j k p h, at-node j (suc k) p h))
-      (λ j k p h. omega (arith, at-node j k p h))
+      (λ j k p h. omega (arith, z j k p h, at_node j (suc k) p h))
+      (λ j k p h. omega (arith, at_node j k p h))
       q
 
 -- ---- bounds

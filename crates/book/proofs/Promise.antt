@@ -123,12 +123,12 @@ module _ (ns ws : List ℤ) (lent : List ℕ) where
       go (wrong h) = refused ((our_rule ns ws lent).wrong_length h)
       go (bad h t) = refused ((our_rule ns ws lent).not_taken h t)
       go (good h t) =
-          let ours-is = our_line ns ws lent h t in
+          let ours_is = our_line ns ws lent h t in
           let same =
           one_reading x y z (total ns ws) (gains ns ws) (losses ns ws) text (book_line ns ws) rest (drop (length (book_line ns ws)) lent) l
-          (one_line (total ns ws) (gains ns ws) (losses ns ws)).line (sym q ∙ ap (λ o. o.left) ours-is) in
+          (one_line (total ns ws) (gains ns ws) (losses ns ws)).line (sym q ∙ ap (λ o. o.left) ours_is) in
           record {
-            told = ap (λ o. o.values) ours-is ∙ ap (λ s. length s ∷ []) (sym same.text_same);
+            told = ap (λ o. o.values) ours_is ∙ ap (λ s. length s ∷ []) (sym same.text_same);
             adds =
                 ap (λ u. u +ℤ z) same.second_same ∙ ap (λ u. gains ns ws +ℤ u) same.third_same ∙ gains_and_losses ns ws
                 ∙ sym same.first_same;

@@ -15,7 +15,7 @@ use Rattle.book.specs.Lines.{line_of, book_line}
 use Rattle.book.specs.Answers.{starting_with}
 use Rattle.book.specs.Promise.{Result, Reporter, refuses, Keeps, ours}
 use Rattle.book.proofs.Promise.{ours_keeps, ours_alone, our_told}
-use Rattle.books.specs.Refuted.{all_refused, any_room, book_answered2, book_first, both_more, by_nominal, by_value, end_missing}
+use Rattle.books.specs.Refuted.{all_refused, any_room, book_answered_2, book_first, both_more, by_nominal, by_value, end_missing}
 use Rattle.books.specs.Refuted.{end_not_told, gains_as_losses, last_lost, leading_zeros, limited_to, losses_not_taken_off}
 use Rattle.books.specs.Refuted.{losses_without_sign, lost_zeros, minus_zero, more_room_taken, netted, nominals_turned}
 use Rattle.books.specs.Refuted.{nominals_unbounded, none_refused, not_written, number_missing, plus_sign, refused_tells}
@@ -98,7 +98,7 @@ none_keeps =
       book_first = by number book_first (pos 1 ∷ []) [] (replicate 0 0xFF) (λ (z : ◌≡◌ {A = ℕ} 28 2). omega arith);
       any_room = by number any_room [] [] (replicate 95 0xFF) (λ (z : ◌≡◌ {A = ℕ} 0 2). omega arith);
       more_room_taken = by number more_room_taken [] [] (replicate 97 0xFF) (λ (z : ◌≡◌ {A = ℕ} 0 2). omega arith);
-      book_answered_2 = by number book_answered2 (pos 1 ∷ []) [] room (λ (z : ◌≡◌ {A = ℕ} 2 28). omega arith);
+      book_answered_2 = by number book_answered_2 (pos 1 ∷ []) [] room (λ (z : ◌≡◌ {A = ℕ} 2 28). omega arith);
       all_refused = by number all_refused [] [] room (λ (z : ◌≡◌ {A = ℕ} 28 0). omega arith);
       none_refused = by number none_refused (pos 1_000_001 ∷ []) (pos 1 ∷ []) room (λ (z : ◌≡◌ {A = ℕ} 0 28). omega arith);
       refused_writes = by (byte 0) refused_writes (pos 1 ∷ []) [] room (λ (z : ◌≡◌ {A = ℕ} 98 255). omega arith);

@@ -146,10 +146,10 @@ abbrev pub with_checks : (List ℤ → List ℤ → List ℕ → Checks) → Rep
 with_checks checks = reporting checks book_line
 
 abbrev pub taken_with : ℕ → (List ℤ → Bool) → (List ℤ → Bool) → Reporter
-taken_with positions nominals-good values-good =
+taken_with positions nominals_good values_good =
     with_checks (λ nominals values lent.
     sized lent
-    ∷ (not (eqb (length nominals) (length values) && (leb (length nominals) positions && (nominals-good nominals && values-good values))), 28)
+    ∷ (not (eqb (length nominals) (length values) && (leb (length nominals) positions && (nominals_good nominals && values_good values))), 28)
     ∷ [])
 
 -- At most so many positions, and nominals and values at most so far from 0.
@@ -184,8 +184,8 @@ any_room = with_checks (λ nominals values lent. booked nominals values ∷ [])
 abbrev pub more_room_taken : Reporter
 more_room_taken = with_checks (λ nominals values lent. (ltb (length lent) 96, 2) ∷ booked nominals values ∷ [])
 
-abbrev pub book_answered2 : Reporter
-book_answered2 = with_checks (λ nominals values lent. sized lent ∷ (not (taken nominals values), 2) ∷ [])
+abbrev pub book_answered_2 : Reporter
+book_answered_2 = with_checks (λ nominals values lent. sized lent ∷ (not (taken nominals values), 2) ∷ [])
 
 abbrev pub all_refused : Reporter
 all_refused = with_checks (λ nominals values lent. sized lent ∷ (true, 28) ∷ [])
@@ -266,7 +266,7 @@ pub record NoneKeeps : Type 0 where
   pub book_first : Keeps book_first → ⊥
   pub any_room : Keeps any_room → ⊥
   pub more_room_taken : Keeps more_room_taken → ⊥
-  pub book_answered_2 : Keeps book_answered2 → ⊥
+  pub book_answered_2 : Keeps book_answered_2 → ⊥
   pub all_refused : Keeps all_refused → ⊥
   pub none_refused : Keeps none_refused → ⊥
   pub refused_writes : Keeps refused_writes → ⊥

@@ -36,9 +36,9 @@ clean_more w f j k n c e h t = record { under = λ i l q p. go i l q p (ℕ_disc
     go : (i l : ℕ) → l < w → i * w + l < n + 1 → Dec (i * w + l ≡ n) → f i l ≡ false
     go i l q p (yes d) =
         let same : i * w + l ≡ j * w + k = d ∙ e in
-        let i-is : i ≡ j = sym (digits_div i q) ∙ ap (λ y. y / w) same ∙ digits_div j h in
-        let l-is : l ≡ k = sym (digits_mod i q) ∙ ap (λ y. y % w) same ∙ digits_mod j h in
-        rw (i-is, l-is) t
+        let i_is : i ≡ j = sym (digits_div i q) ∙ ap (λ y. y / w) same ∙ digits_div j h in
+        let l_is : l ≡ k = sym (digits_mod i q) ∙ ap (λ y. y % w) same ∙ digits_mod j h in
+        rw (i_is, l_is) t
     go i l q p (no d) = c.under i l q (omega arith)
 
 pub over_found : (r w : ℕ) (f : ℕ → ℕ → Bool) (j k : ℕ) → j < r → k < w → f j k ≡ true → any r (λ j. any w (f j)) ≡ true
@@ -89,10 +89,10 @@ module _ (pool : Pool) (attachments starts hazards discounts accruals elapsed d 
   unfolding premium_most
   most_is k = omega (arith, e)
 
-  pub soiled-is :
+  pub soiled_is :
       any (suc pool.tranches) (λ j. any (suc pool.names) (λ k. over_at (bare pool attachments) most d p j k)) ≡ soiled whole i d p
   unfolding soiled any_over node_in
-  soiled-is =
+  soiled_is =
       let r : ℕ = suc pool.tranches in
       let w : ℕ = suc pool.names in
       (λ t.
@@ -102,7 +102,7 @@ module _ (pool : Pool) (attachments starts hazards discounts accruals elapsed d 
       ∙ any_or r (λ j. any w (λ k. ltb (default_most whole j k) (entry w d j k))) (λ j. any w (λ k. ltb (premium_most whole i k) (entry w p j k)))
 
 -- The lists that set no ceiling play no part, and the others may be parts of the sheet's numbers.
-module _ (pool : Pool) (attachments starts hazards discounts accruals elapsed a c : List ℕ) (a-is : a ≡ attachments) (c-is : c ≡ accruals) where
+module _ (pool : Pool) (attachments starts hazards discounts accruals elapsed a c : List ℕ) (a_is : a ≡ attachments) (c_is : c ≡ accruals) where
   abbrev x : Terms
   x = terms_of pool attachments starts hazards discounts accruals elapsed
 
@@ -111,7 +111,7 @@ module _ (pool : Pool) (attachments starts hazards discounts accruals elapsed a 
   soiled_whole i d p = refl
 
   pub soiled_part : (i : ℕ) (d p : List ℕ) → soiled (terms_of pool a [] [] [] c []) i d p ≡ soiled x i d p
-  soiled_part i d p = (λ t. soiled (terms_of pool (a-is t) [] [] [] (c-is t) []) i d p) ∙ soiled_whole i d p
+  soiled_part i d p = (λ t. soiled (terms_of pool (a_is t) [] [] [] (c_is t) []) i d p) ∙ soiled_whole i d p
 
 -- ---- rows that keep to their ceilings can be walked back
 

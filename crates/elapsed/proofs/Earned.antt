@@ -53,14 +53,14 @@ unfolding entry
 none_earned r names table outs long zeros = is_grid table r (suc names) _ (omega arith) long (λ j k h q. zeros (j * suc names + k) ∙ sym (none_paid names outs j k))
 
 -- tranche j starts at a and is m long
-module _ {r n : ℕ} {outs : List ℕ} (falling : FallingRows r n outs) {j a : ℕ} (inside : j < r) (a-is : a ≡ j * suc n) (m : ℕ) (m-is : m ≡ suc n) where
+module _ {r n : ℕ} {outs : List ℕ} (falling : FallingRows r n outs) {j a : ℕ} (inside : j < r) (a_is : a ≡ j * suc n) (m : ℕ) (m_is : m ≡ suc n) where
   here : (k : ℕ) → k < suc n → get_or (part a m outs) k 0 ≡ entry (suc n) outs j k
-  here = read_entry r (suc n) outs falling.long j a m inside a-is m-is
+  here = read_entry r (suc n) outs falling.long j a m inside a_is m_is
 
   pub tranche_falls : Falling n (part a m outs)
   tranche_falls =
       record {
-        long = read_long r (suc n) outs falling.long j a m inside a-is m-is;
+        long = read_long r (suc n) outs falling.long j a m inside a_is m_is;
         most = λ k h. rw (here k (omega arith)) (falling.most j k inside h);
         falls = λ k h. rw (here k (omega arith), here (suc k) (omega arith)) (falling.falls j k inside h);
       }
@@ -77,7 +77,7 @@ module _ {r n : ℕ} {outs : List ℕ} (falling : FallingRows r n outs) {j a : �
 pub tranche_filled : {r n : ℕ} {outs xs ys : List ℕ} {j a : ℕ} (fraction : ℕ) → FallingRows r n outs → (p : Passed r (suc n) (earned_in n fraction outs) xs ys j a) →
     length xs ≡ r * suc n → j < r → (m e : ℕ) (zs : List ℕ) → m ≡ suc n → e ≡ a + suc n → zs ≡ tab (suc n) (earned_at n fraction (part a m outs)) →
     Passed r (suc n) (earned_in n fraction outs) xs (put a m ys zs) (j + 1) e
-tranche_filled fraction falling p long inside m e zs m-is e-is q =
-    passed_more p long inside m e zs m-is e-is
+tranche_filled fraction falling p long inside m e zs m_is e_is q =
+    passed_more p long inside m e zs m_is e_is
     (ap length q ∙ length_tab _ _)
-    (λ k h. ap (λ (l : List ℕ). get_or l k 0) q ∙ get_d_tab _ _ k h ∙ tranche_earned falling inside p.start m m-is fraction k h)
+    (λ k h. ap (λ (l : List ℕ). get_or l k 0) q ∙ get_d_tab _ _ k h ∙ tranche_earned falling inside p.start m m_is fraction k h)

@@ -161,7 +161,7 @@ module _ (e : Engine) (rules : Rules e) (u : Run) (y h : ℕ) (w : Walked e u y 
   -- ---- from where it stands
 
   module _ (walks : ℕ → Standing) (turns : List WalkedTurn) (place : ℕ) (stands : walks place ≡ standing_in e u y) (live : LiveAt y place turns)
-      (register : List ℕ) (Live-then : Live register y) where
+      (register : List ℕ) (live_then : Live register y) where
     abbrev had : ℕ
     had = turns_had place turns
 
@@ -177,14 +177,14 @@ module _ (e : Engine) (rules : Rules e) (u : Run) (y h : ℕ) (w : Walked e u y 
         (back_of e register (after_turns e walks turns place) c).said ≡ says (pos (x.sheet.steps - (h + had + c)) ∷ [])
     goes_on c far =
         let a = stood (omega arith) in
-        ap (λ (v : Standing). (back_of e register v c).said) a.is ∙ says_place had c a.rows a.steps register Live-then far
+        ap (λ (v : Standing). (back_of e register v c).said) a.is ∙ says_place had c a.rows a.steps register live_then far
 
     same_as_one : h + had ≤ x.sheet.steps → after_turns e walks turns place ≡ stands_back e register (walks place) had
     same_as_one far =
         let all : 0 + had ≡ had = omega arith in
         let one : After had (stands_back e register (walks place) had) =
         subst (λ (n : ℕ). After n (stands_back e register (walks place) had)) all
-        (back_on 0 had (walks place) started register Live-then (omega arith)) in
+        (back_on 0 had (walks place) started register live_then (omega arith)) in
         once had (after_turns e walks turns place) (stands_back e register (walks place) had) (stood far) one
 
 pub walks_in_turns : (e : Engine) → Rules e → WalksInTurns e

@@ -21,8 +21,8 @@ use Rattle.fairness.specs.Refuted.{steps_limit_less, fifteen_most, first_served,
 use Rattle.fairness.specs.Refuted.{longer_list_taken, longest_first, lowest_first, steps_limit_more, none_off, none_refused, none_refuses}
 use Rattle.fairness.specs.Refuted.{not_counted, not_round, not_written, numbers_lost, off_the_next, once_round, one_more_counted, one_place_on}
 use Rattle.fairness.specs.Refuted.{one_short, one_walk_refused, open_alone, place_behind_taken, place_not_kept, place_stays, place_told}
-use Rattle.fairness.specs.Refuted.{refused_moves, refused_takes_off, refused_tells, refused_with2, refused_writes, rest_filled, rest_zeroed}
-use Rattle.fairness.specs.Refuted.{seventeen_taken, shorter_list_taken, skips_aPlace, stale_counted, starts_at_zero, table_as_it_was, table_cut}
+use Rattle.fairness.specs.Refuted.{refused_moves, refused_takes_off, refused_tells, refused_with_2, refused_writes, rest_filled, rest_zeroed}
+use Rattle.fairness.specs.Refuted.{seventeen_taken, shorter_list_taken, skips_a_place, stale_counted, starts_at_zero, table_as_it_was, table_cut}
 use Rattle.fairness.specs.Refuted.{last_steps_wait, next_alone, shut_refused, two_off, walked_too, walks_closed}
 use Rattle.fairness.specs.Refuted.{serving, written, turns_by, with_walks, with_table, limited_to, refused_as}
 use Rattle.fairness.specs.Refuted.{NoneKeeps, NoneFair, NoneTakesOff, Unchanged}
@@ -82,7 +82,7 @@ none_keeps =
       lowest_first = by place lowest_first (table walks (2 ∷ 1 ∷ [])) 1 (9 ∷ 9 ∷ []) (λ (z : ◌≡◌ {A = ℕ} 0 1). omega arith);
       starts_at_zero = by (at 0) starts_at_zero (table walks (1 ∷ 2 ∷ [])) 0 (9 ∷ 9 ∷ 9 ∷ []) (λ (z : ◌≡◌ {A = ℕ} 0 1). omega arith);
       longest_first = by place longest_first (table walks (2 ∷ 1 ∷ [])) 1 (9 ∷ 9 ∷ []) (λ (z : ◌≡◌ {A = ℕ} 0 1). omega arith);
-      skips_a_place = by place skips_aPlace (table walks (2 ∷ 1 ∷ [])) 1 (9 ∷ 9 ∷ []) (λ (z : ◌≡◌ {A = ℕ} 0 1). omega arith);
+      skips_a_place = by place skips_a_place (table walks (2 ∷ 1 ∷ [])) 1 (9 ∷ 9 ∷ []) (λ (z : ◌≡◌ {A = ℕ} 0 1). omega arith);
       from_itself = by place from_itself (table walks (2 ∷ 1 ∷ [])) 1 (9 ∷ 9 ∷ []) (λ (z : ◌≡◌ {A = ℕ} 0 1). omega arith);
       downwards = by place downwards (table walks (1 ∷ 1 ∷ 1 ∷ [])) 0 (9 ∷ 9 ∷ []) (λ (z : ◌≡◌ {A = ℕ} 1 2). omega arith);
       last_steps_wait = by place last_steps_wait (table walks (3 ∷ 1 ∷ [])) 1 (9 ∷ 9 ∷ []) (λ (z : ◌≡◌ {A = ℕ} 0 1). omega arith);
@@ -130,7 +130,7 @@ none_keeps =
       empty_list_refused = by number empty_list_refused (table walks (1 ∷ 1 ∷ [])) 0 [] (λ (z : ◌≡◌ {A = ℕ} 29 0). omega arith);
       all_refused = by number all_refused (table walks (1 ∷ [])) 0 (9 ∷ []) (λ (z : ◌≡◌ {A = ℕ} 29 0). omega arith);
       none_refused = by number none_refused (table walks (replicate 17 1)) 0 (9 ∷ []) (λ (z : ◌≡◌ {A = ℕ} 0 29). omega arith);
-      refused_with_2 = by number refused_with2 (table walks (replicate 17 1)) 0 (9 ∷ []) (λ (z : ◌≡◌ {A = ℕ} 2 29). omega arith);
+      refused_with_2 = by number refused_with_2 (table walks (replicate 17 1)) 0 (9 ∷ []) (λ (z : ◌≡◌ {A = ℕ} 2 29). omega arith);
       refused_tells = by told refused_tells (table walks (replicate 17 1)) 0 (9 ∷ []) (λ (z : ◌≡◌ {A = ℕ} 1 0). omega arith);
       refused_moves = by place refused_moves (table walks (1 ∷ [])) 1 (9 ∷ []) (λ (z : ◌≡◌ {A = ℕ} 0 1). omega arith);
       refused_writes = by (at 0) refused_writes (table walks (replicate 17 1)) 0 (9 ∷ []) (λ (z : ◌≡◌ {A = ℕ} 0 9). omega arith);
@@ -168,7 +168,7 @@ none_fair =
           (let z : 0 < 1 = omega arith in z) (λ (z : ◌≡◌ {A = ℕ} 0 1). omega arith);
       -- 1 1, while the walk at 0 waits
       skips_a_place =
-          unfair skips_aPlace (2 ∷ 2 ∷ []) 1 (2 ∷ []) [] [] [] 1 0 refl refl (λ (z : ◌≡◌ {A = ℕ} 0 1). omega arith)
+          unfair skips_a_place (2 ∷ 2 ∷ []) 1 (2 ∷ []) [] [] [] 1 0 refl refl (λ (z : ◌≡◌ {A = ℕ} 0 1). omega arith)
           (let z : 0 < 2 = omega arith in z) (λ (z : ◌≡◌ {A = ℕ} 0 1). omega arith);
       -- 0 0, while the walk at 1 waits
       from_itself =

@@ -52,8 +52,8 @@ longest_first =
     choosing (λ left last. cond (eqb (get_or left (longest_of left (length left)) 0) 0) (length left) (longest_of left (length left)))
 
 -- The place after the next.
-abbrev pub skips_aPlace : Server
-skips_aPlace = choosing (λ left last. first_of left (next_place (length left) last) (length left))
+abbrev pub skips_a_place : Server
+skips_a_place = choosing (λ left last. first_of left (next_place (length left) last) (length left))
 
 -- The place before p, in cyclic order.
 abbrev pub place_before : ℕ → ℕ → ℕ
@@ -321,8 +321,8 @@ none_refused = taking_by (λ left place many. true)
 abbrev pub refused_as : (List Turn → ℕ → List ℕ → Result) → Server
 refused_as shows table place list = cond (taken (steps_of table) place (length list)) (ours table place list) (shows table place list)
 
-abbrev pub refused_with2 : Server
-refused_with2 = refused_as (λ table place list. refuses 2 table place list)
+abbrev pub refused_with_2 : Server
+refused_with_2 = refused_as (λ table place list. refuses 2 table place list)
 
 abbrev pub refused_tells : Server
 refused_tells = refused_as (λ table place list. record { number = 29; values = 0 ∷ []; place = place; table = table; list = list })
@@ -342,7 +342,7 @@ pub record NoneKeeps : Type 0 where
   pub lowest_first : Keeps lowest_first → ⊥
   pub starts_at_zero : Keeps starts_at_zero → ⊥
   pub longest_first : Keeps longest_first → ⊥
-  pub skips_a_place : Keeps skips_aPlace → ⊥
+  pub skips_a_place : Keeps skips_a_place → ⊥
   pub from_itself : Keeps from_itself → ⊥
   pub downwards : Keeps downwards → ⊥
   pub last_steps_wait : Keeps last_steps_wait → ⊥
@@ -390,7 +390,7 @@ pub record NoneKeeps : Type 0 where
   pub empty_list_refused : Keeps empty_list_refused → ⊥
   pub all_refused : Keeps all_refused → ⊥
   pub none_refused : Keeps none_refused → ⊥
-  pub refused_with_2 : Keeps refused_with2 → ⊥
+  pub refused_with_2 : Keeps refused_with_2 → ⊥
   pub refused_tells : Keeps refused_tells → ⊥
   pub refused_moves : Keeps refused_moves → ⊥
   pub refused_writes : Keeps refused_writes → ⊥
@@ -402,7 +402,7 @@ pub record NoneFair : Type 0 where
   pub lowest_first : Fair lowest_first → ⊥
   pub starts_at_zero : Fair starts_at_zero → ⊥
   pub longest_first : Fair longest_first → ⊥
-  pub skips_a_place : Fair skips_aPlace → ⊥
+  pub skips_a_place : Fair skips_a_place → ⊥
   pub from_itself : Fair from_itself → ⊥
   pub refused_moves : Fair refused_moves → ⊥
   pub place_not_kept : Fair place_not_kept → ⊥

@@ -264,7 +264,7 @@ kept_after (Forward i c) m k z = k
 -- an entry behind a list that was long enough is one too many
 module _ (g h : Draft) (w : Walk) (rooms : Rows) (k : Kept g w rooms) (one : h.brought.sheet.starts ≡ 1 ∷ [])
     (pooled : h.pooled ≡ g.pooled) (names : h.brought.sheet.names ≡ g.brought.sheet.names)
-    (same-due : due h.brought ≡ due g.brought) (more : entered h.brought ≡ entered g.brought + 1) where
+    (same_due : due h.brought ≡ due g.brought) (more : entered h.brought ≡ entered g.brought + 1) where
   lengthened : Kept h w rooms
   lengthened =
       record {
@@ -274,8 +274,8 @@ module _ (g h : Draft) (w : Walk) (rooms : Rows) (k : Kept g w rooms) (one : h.b
             let v = k.walked going in
             record {
               pooled = pooled ∙ v.pooled;
-              enough = omega (arith, same-due, more, v.enough);
-              under = λ d. absurd (omega (arith, d, same-due, more, v.enough));
+              enough = omega (arith, same_due, more, v.enough);
+              under = λ d. absurd (omega (arith, d, same_due, more, v.enough));
             };
       }
 

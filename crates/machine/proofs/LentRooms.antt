@@ -58,15 +58,15 @@ product_most r n g h = mul-le-mul {n₁ = suc r} {m₁ = suc n} {n₂ = 1134} {m
 
 -- ---- both rows
 
-module _ (x : Brought) (ds ps : List ℕ) (k : ℕ) (k-is : k ≡ min (row_length x.sheet) 1134) (d-long : length ds ≡ 1134) (p-long : length ps ≡ 1134) where
+module _ (x : Brought) (ds ps : List ℕ) (k : ℕ) (k_is : k ≡ min (row_length x.sheet) 1134) (d_long : length ds ≡ 1134) (p_long : length ps ≡ 1134) where
   lent_is : rows_of (take k ds) (take k ps) ≡ lent_rows x (rows_of ds ps)
-  lent_is = λ j. rows_of (take_min (row_length x.sheet) 1134 k ds d-long k-is j) (take_min (row_length x.sheet) 1134 k ps p-long k-is j)
+  lent_is = λ j. rows_of (take_min (row_length x.sheet) 1134 k ds d_long k_is j) (take_min (row_length x.sheet) 1134 k ps p_long k_is j)
 
   -- what a call says of the parts, said of the rooms
   pub rooms_left : (call : Rows → Outcome) {r : Reply} {ds' ps' : List ℕ} → replied r ds' ps' ≡ call (rows_of (take k ds) (take k ps)) →
       replied r (ds' ++ drop k ds) (ps' ++ drop k ps) ≡ left_in_rooms x (rows_of ds ps) (call (lent_rows x (rows_of ds ps)))
   rooms_left call {r} {ds'} {ps'} e =
-      (λ j. replied r (ds' ++ drop_min (row_length x.sheet) 1134 k ds d-long k-is j) (ps' ++ drop_min (row_length x.sheet) 1134 k ps p-long k-is j))
+      (λ j. replied r (ds' ++ drop_min (row_length x.sheet) 1134 k ds d_long k_is j) (ps' ++ drop_min (row_length x.sheet) 1134 k ps p_long k_is j))
       ∙ ap (left_in_rooms x (rows_of ds ps)) (e ∙ ap call lent_is)
 
   -- the same of a call that only reads them
@@ -80,13 +80,13 @@ chosen : (b : Bool) (l m : List ℕ) → (b ≡ false → l ≡ m) → l ≡ con
 chosen true l m e = refl
 chosen false l m e = e refl
 
-module _ (x : Brought) (register row row' : List ℕ) (a : Answer) (i count k : ℕ) (k-is : k ≡ min (x.sheet.names + 1) 126) (long : length row ≡ 126)
+module _ (x : Brought) (register row row' : List ℕ) (a : Answer) (i count k : ℕ) (k_is : k ≡ min (x.sheet.names + 1) 126) (long : length row ≡ 126)
     (fills : forward_outcome a row' ≡ forward_call x register (take k row) i) where
   fills_in : forward_outcome a (row' ++ drop k row) ≡ forward_in_row x register row i
   unfolding forward_in_row
   fills_in =
-      (λ j. forward_outcome a (row' ++ drop_min (x.sheet.names + 1) 126 k row long k-is j))
-      ∙ ap (left_in_row x row) (fills ∙ ap (λ (l : List ℕ). forward_call x register l i) (take_min (x.sheet.names + 1) 126 k row long k-is))
+      (λ j. forward_outcome a (row' ++ drop_min (x.sheet.names + 1) 126 k row long k_is j))
+      ∙ ap (left_in_row x row) (fills ∙ ap (λ (l : List ℕ). forward_call x register l i) (take_min (x.sheet.names + 1) 126 k row long k_is))
 
   -- what is said of a count that a tree may have; a refused call leaves its part, and so the row
   pub distribution_left : {said : Said} → said ≡ count_said a (row' ++ drop k row) x.sheet.names count →
@@ -134,7 +134,7 @@ off_refused Fine = refl
 off_refused (Found.Refused r) = refusal_some r
 
 -- there the row is only read
-module _ (x : Brought) (register row : List ℕ) (i count k : ℕ) (k-is : k ≡ min (x.sheet.names + 1) 126) (long : length row ≡ 126)
+module _ (x : Brought) (register row : List ℕ) (i count k : ℕ) (k_is : k ≡ min (x.sheet.names + 1) 126) (long : length row ≡ 126)
     (above : x.sheet.names < count) where
   abbrev lent : List ℕ
   lent = take (x.sheet.names + 1) row
@@ -151,6 +151,6 @@ module _ (x : Brought) (register row : List ℕ) (i count k : ℕ) (k-is : k ≡
       let there : Said = count_said o.answer o.row x.sheet.names count in
       let told : off_tree_said (first (forward_tests x register lent i)) ≡ there = as_told o.row in
       let same : said ≡ off_tree_said (first (forward_tests x register lent i)) =
-      e ∙ ap (λ (l : List ℕ). off_tree_said (first (forward_tests x register l i))) (take_min (x.sheet.names + 1) 126 k row long k-is) in
+      e ∙ ap (λ (l : List ℕ). off_tree_said (first (forward_tests x register l i))) (take_min (x.sheet.names + 1) 126 k row long k_is) in
       let refused : accepted there ≡ false = ap accepted (sym told) ∙ off_refused (first (forward_tests x register lent i)) in
       ap (λ (s : Said). said_beside s row) (same ∙ told) ∙ ap (λ (b : Bool). said_beside there (cond b o.row row)) (sym refused)

@@ -216,7 +216,7 @@ one_past : (l now : List ℕ) (x q : ℕ) (xs : List ℕ) → x < length l → 1
 one_past l now x q xs hx some e (same w) =
     let z : get_or (one_off l x) q 0 ≡ get_or l q 0 - 1 =
     ap (λ (k : ℕ). get_or (one_off l x) k 0) w ∙ off_same l x hx ∙ ap (λ (k : ℕ). get_or l k 0 - 1) (sym w) in
-    let had-some : 1 ≤ get_or l q 0 = rw w some in
+    let had_some : 1 ≤ get_or l q 0 = rw w some in
     omega (arith, e, z, at_same q x xs w)
 one_past l now x q xs hx some e (other w) = omega (arith, e, off_other l x q w, at_other q x xs w)
 
@@ -250,12 +250,12 @@ pub fair_turns : (l : List ℕ) (s m : ℕ) (xs ys zs : List ℕ) (p q : ℕ) �
 fair_turns l s m xs ys zs p q e none ne has =
     let b = past l s m xs (p ∷ (ys ++ (p ∷ zs))) e in
     let t = turn_of b.now b.last b.more p (ys ++ (p ∷ zs)) b.rest in
-    let has-now : 0 < get_or b.now q 0 = let z = b.steps q in omega (arith, z) in
+    let has_now : 0 < get_or b.now q 0 = let z = b.steps q in omega (arith, z) in
     let off : List ℕ = one_off b.now p in
     let n : length b.now ≡ length off = sym (length-set b.now p _) in
-    (round (length b.now) p q ys zs off p t.more n t.inside t.inside (inside_at b.now q has-now (cmp q (length b.now))) ne
+    (round (length b.now) p q ys zs off p t.more n t.inside t.inside (inside_at b.now q has_now (cmp q (length b.now))) ne
     (had off p t.more p ys zs t.rest) none t.rest).0
-    (first_rank (length b.now) p q t.inside ne) (rw (off_other b.now p q ne) has-now)
+    (first_rank (length b.now) p q t.inside ne) (rw (off_other b.now p q ne) has_now)
 
 -- ---- many calls are one
 

@@ -30,13 +30,13 @@ length_part : (a w : ℕ) (l : List ℕ) → a + w ≤ length l → length (part
 length_part a w l h = length-take-le w (drop a l) (omega (arith, length-drop a l))
 
 -- a loop over the tranches of a list that it only reads: tranche j starts at a and is m long
-module _ (r w : ℕ) (xs : List ℕ) (long : length xs ≡ r * w) (j a m : ℕ) (inside : j < r) (a-is : a ≡ j * w) (m-is : m ≡ w) where
+module _ (r w : ℕ) (xs : List ℕ) (long : length xs ≡ r * w) (j a m : ℕ) (inside : j < r) (a_is : a ≡ j * w) (m_is : m ≡ w) where
   pub read_long : length (part a m xs) ≡ w
-  read_long = rw (m-is, a-is) (length_part (j * w) w xs (omega (arith, room j r w inside)))
+  read_long = rw (m_is, a_is) (length_part (j * w) w xs (omega (arith, room j r w inside)))
 
   pub read_entry : (k : ℕ) → k < w → get_or (part a m xs) k 0 ≡ entry w xs j k
   unfolding entry
-  read_entry k h = rw (m-is, a-is) (part_at (j * w) w xs k h)
+  read_entry k h = rw (m_is, a_is) (part_at (j * w) w xs k h)
 
 -- Rows xs that a loop rewrites by a rule, tranche by tranche, stand at ys: j of r tranches of w counts are passed, and the next starts at a.
 pub record Passed (r w : ℕ) (f : ℕ → ℕ → ℕ) (xs ys : List ℕ) (j a : ℕ) : Type 0 where
@@ -53,34 +53,34 @@ module _ {r w : ℕ} {f : ℕ → ℕ → ℕ} {xs ys : List ℕ} {j a : ℕ} (p
   fits = omega (arith, room j r w inside, p.start, p.swept.same)
 
   pub part_long : (m : ℕ) → m ≡ w → length (part a m ys) ≡ w
-  part_long m m-is = rw m-is (length_part a w ys fits)
+  part_long m m_is = rw m_is (length_part a w ys fits)
 
   -- it is as it was
   pub part_entry : (m : ℕ) → m ≡ w → (k : ℕ) → k < w → get_or (part a m ys) k 0 ≡ entry w xs j k
   unfolding entry
-  part_entry m m-is k h =
-      rw m-is (part_at a w ys k h)
+  part_entry m m_is k h =
+      rw m_is (part_at a w ys k h)
       ∙ p.swept.ahead (a + k) (omega arith)
       ∙ ap (λ (n : ℕ). get_or xs (n + k) 0) p.start
 
   pub passed_more : (m e : ℕ) (zs : List ℕ) → m ≡ w → e ≡ a + w → length zs ≡ w → ((k : ℕ) → k < w → get_or zs k 0 ≡ f j k) → Passed r w f xs (put a m ys zs) (j + 1) e
-  passed_more m e zs m-is e-is same h =
+  passed_more m e zs m_is e_is same h =
       record {
         most = omega arith;
         start = omega (arith, next_tranche j w, p.start);
         swept =
-            rw (m-is, e-is)
+            rw (m_is, e_is)
             (swept_part a w ys zs fits same (flat w f) xs p.swept
             (λ k q. h k q ∙ sym (flat_at w f j k q) ∙ ap (λ (n : ℕ). flat w f (n + k)) (sym p.start)));
       }
 
   -- it has come back filled
   pub passed_tab : (m e : ℕ) (zs : List ℕ) → m ≡ w → e ≡ a + w → zs ≡ tab w (f j) → Passed r w f xs (put a m ys zs) (j + 1) e
-  passed_tab m e zs m-is e-is q =
-      passed_more m e zs m-is e-is (ap length q ∙ length_tab w (f j)) (λ k h. ap (λ (l : List ℕ). get_or l k 0) q ∙ get_d_tab w (f j) k h)
+  passed_tab m e zs m_is e_is q =
+      passed_more m e zs m_is e_is (ap length q ∙ length_tab w (f j)) (λ k h. ap (λ (l : List ℕ). get_or l k 0) q ∙ get_d_tab w (f j) k h)
 
 -- every tranche is passed
 pub passed_all : {r w : ℕ} {f : ℕ → ℕ → ℕ} {xs ys : List ℕ} {j a : ℕ} → Passed r w f xs ys j a → length xs ≡ r * w → j ≡ r → ys ≡ grid r w f
-passed_all {r} {w} {f} {xs} {ys} {j} {a} p long j-is =
-    let e : a ≡ length xs = p.start ∙ ap (λ (n : ℕ). n * w) j-is ∙ sym long in
+passed_all {r} {w} {f} {xs} {ys} {j} {a} p long j_is =
+    let e : a ≡ length xs = p.start ∙ ap (λ (n : ℕ). n * w) j_is ∙ sym long in
     swept_all (flat w f) xs ys a p.swept e ∙ (λ t. tab (long t) (flat w f)) ∙ sym (grid_flat r w f)

@@ -15,21 +15,21 @@ use Rattle.rows.proofs.Parts.{part, read_long, read_entry, Passed, part_long, pa
 
 -- tranche j starts at a, is m long and ends at e
 module _ {r n : ℕ} {xs hz : List ℕ} {v : ℕ} {cash : List ℕ} (safe : RowsFit r n xs hz v cash)
-    {ys : List ℕ} {j a : ℕ} (p : Passed r (suc n) (rolled_in (suc n) hz v cash xs) xs ys j a) (inside : j < r) (m : ℕ) (m-is : m ≡ suc n) where
+    {ys : List ℕ} {j a : ℕ} (p : Passed r (suc n) (rolled_in (suc n) hz v cash xs) xs ys j a) (inside : j < r) (m : ℕ) (m_is : m ≡ suc n) where
   here : (k : ℕ) → k < suc n → get_or (part a m ys) k 0 ≡ entry (suc n) xs j k
-  here = part_entry p safe.rows_long inside m m-is
+  here = part_entry p safe.rows_long inside m m_is
 
   paid : (k : ℕ) → k < suc n → get_or (part a m cash) k 0 ≡ entry (suc n) cash j k
-  paid = read_entry r (suc n) cash safe.cash_long j a m inside p.start m-is
+  paid = read_entry r (suc n) cash safe.cash_long j a m inside p.start m_is
 
   long : length (part a m ys) ≡ suc n
-  long = part_long p safe.rows_long inside m m-is
+  long = part_long p safe.rows_long inside m m_is
 
   pub tranche_fits : RowFits (part a m ys) hz v (part a m cash)
   tranche_fits =
       record {
         row_long = long ∙ ap suc (sym safe.hazards_long);
-        cash_long = read_long r (suc n) cash safe.cash_long j a m inside p.start m-is ∙ ap suc (sym safe.hazards_long);
+        cash_long = read_long r (suc n) cash safe.cash_long j a m inside p.start m_is ∙ ap suc (sym safe.hazards_long);
         hazard_most = safe.hazard_most;
         discount_most = safe.discount_most;
         survived_most = λ k h.
@@ -52,7 +52,7 @@ module _ {r n : ℕ} {xs hz : List ℕ} {v : ℕ} {cash : List ℕ} (safe : Rows
 
   pub tranche_back : (e : ℕ) (zs : List ℕ) → e ≡ a + suc n → zs ≡ tab (length (part a m ys)) (rolled_at hz v (part a m cash) (part a m ys))
       → Passed r (suc n) (rolled_in (suc n) hz v cash xs) xs (put a m ys zs) (j + 1) e
-  tranche_back e zs e-is q =
-      passed_more p safe.rows_long inside m e zs m-is e-is
+  tranche_back e zs e_is q =
+      passed_more p safe.rows_long inside m e zs m_is e_is
       (ap length q ∙ length_tab _ _ ∙ long)
       (λ k h. ap (λ (l : List ℕ). get_or l k 0) q ∙ get_d_tab _ _ k (omega (arith, long)) ∙ rolled_here k h)

@@ -88,7 +88,7 @@ outstandings_falling x t =
       falls = λ j k h q. omega (arith, at j k h (omega arith), at j (suc k) h q, outstanding_less x t j k);
     }
 
-module _ (x : Terms) (t : TranchesWithin x) (position count : ℕ) (left before : List ℕ) (before-long : length before ≡ row_length x) (before-zero : (n : ℕ) → get_or before n 0 ≡ 0) where
+module _ (x : Terms) (t : TranchesWithin x) (position count : ℕ) (left before : List ℕ) (before_long : length before ≡ row_length x) (before_zero : (n : ℕ) → get_or before n 0 ≡ 0) where
   -- it was filled
   filled : left ≡ row_of x (outstanding_of x) → Left x position count left
   filled q =
@@ -105,18 +105,18 @@ module _ (x : Terms) (t : TranchesWithin x) (position count : ℕ) (left before 
   kept : due_in x.accruals position count ≡ false → due_in x.elapsed position count ≡ false → left ≡ before → Left x position count left
   unfolding entry
   kept p r q =
-      let zero-here : (n : ℕ) → get_or left n 0 ≡ 0 = λ n. ap (λ (l : List ℕ). get_or l n 0) q ∙ before-zero n in
+      let zero_here : (n : ℕ) → get_or left n 0 ≡ 0 = λ n. ap (λ (l : List ℕ). get_or l n 0) q ∙ before_zero n in
       record {
         falling =
             record {
-              long = ap length q ∙ before-long;
-              most = λ j k h m. omega (arith, zero-here (j * suc x.names + k));
-              falls = λ j k h m. omega (arith, zero-here (j * suc x.names + k), zero-here (j * suc x.names + suc k));
+              long = ap length q ∙ before_long;
+              most = λ j k h m. omega (arith, zero_here (j * suc x.names + k));
+              falls = λ j k h m. omega (arith, zero_here (j * suc x.names + k), zero_here (j * suc x.names + suc k));
             };
-        low = λ n h. omega (arith, zero-here n);
+        low = λ n h. omega (arith, zero_here n);
         pays = λ d h n m.
             let z : get_or x.accruals (position - suc d) 0 ≡ 0 = (undue x.accruals position count p).none d h in
-            pays_none _ _ z (omega (arith, zero-here n)) ∙ sym (pays_none _ _ z (outstandings_low x t (row_of x (outstanding_of x)) refl n m));
+            pays_none _ _ z (omega (arith, zero_here n)) ∙ sym (pays_none _ _ z (outstandings_low x t (row_of x (outstanding_of x)) refl n m));
         earns = λ d h j k m n.
             let z : get_or x.elapsed (position - suc d) 0 ≡ 0 = (undue x.elapsed position count r).none d h in
             earns_none _ _ _ z ∙ sym (earns_none _ _ _ z);
@@ -136,7 +136,7 @@ pub accrued_left : (x : Terms) (position count : ℕ) (left : List ℕ) → Left
     → (row es : List ℕ) → length row ≡ row_length x → es ≡ tab (length row) (accrued_at (get_or x.accruals i 0) left row)
     → es ≡ tab (length row) (accrued_at (get_or x.accruals i 0) (row_of x (outstanding_of x)) row)
 unfolding accrued_at
-accrued_left x position count left f done i h i-is row es long e =
+accrued_left x position count left f done i h i_is row es long e =
     is_tab es (length row) _ (ap length e ∙ length_tab _ _)
     (λ n q.
     ap (λ (t : List ℕ). get_or t n 0) e
@@ -144,4 +144,4 @@ accrued_left x position count left f done i h i-is row es long e =
     ∙ ap (λ y. get_or row n 0 + y) (rw i_here (f.pays done h n (rw long at q))))
   where
     i_here : i ≡ position - suc done
-    i_here = i-is ∙ ap (λ (m : ℕ). position - m) (add-one done)
+    i_here = i_is ∙ ap (λ (m : ℕ). position - m) (add-one done)

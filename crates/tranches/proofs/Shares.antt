@@ -29,18 +29,18 @@ shared_fits {y} {n} {k} s h q =
     omega (arith, shared_most s, div-le_self y n)
 
 -- what one more brings, and what the remainder then carries over
-module _ {y n k loss rest : ℕ} (s : Shared y n k loss rest) (whole part more : ℕ) (whole_is : whole ≡ y / n) (part-is : part ≡ y % n) (more-is : more ≡ (rest + part) / n) where
+module _ {y n k loss rest : ℕ} (s : Shared y n k loss rest) (whole part more : ℕ) (whole_is : whole ≡ y / n) (part_is : part ≡ y % n) (more_is : more ≡ (rest + part) / n) where
   positive : 0 < n
   positive = omega (arith, s.less)
 
   y_is : whole * n + part ≡ y
-  y_is = rw (whole_is, part-is) (div-add-mod' y n)
+  y_is = rw (whole_is, part_is) (div-add-mod' y n)
 
   pub part_less : part < n
-  part_less = rw part-is (mod-lt y positive)
+  part_less = rw part_is (mod-lt y positive)
 
   rest_is : more * n + (rest + part) % n ≡ rest + part
-  rest_is = rw more-is (div-add-mod' (rest + part) n)
+  rest_is = rw more_is (div-add-mod' (rest + part) n)
 
   pub carried_most : more * n ≤ rest + part
   carried_most = omega (arith, rest_is)

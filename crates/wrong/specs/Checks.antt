@@ -619,7 +619,7 @@ pub record NoneChecks : Type 0 where
   pub withdraw_shorter : RuledOut (withdraw_on (λ g y. g ++ replicate (256 - length g) 0xA5)) (withdraw_answered (replicate 255 0xA5)) 2
   pub withdraw_withdrawn_first : RuledOut (withdraw_first 9 is_withdrawn) (withdraw_answered (replicate 255 0x00)) 2
   pub withdraw_unissued_first : RuledOut (withdraw_first 10 is_unissued) (withdraw_answered (replicate 255 0xFF)) 2
-  pub withdraw-withdrawn :
+  pub withdraw_withdrawn :
       RuledOut (withdraw_on (λ g y. cond (is_withdrawn (status_in g y)) (set g y 0xA5) g)) (withdraw_answered (set blank_register 7 0x00)) 9
   pub withdraw_unissued : RuledOut (withdraw_on (λ g y. cond (is_unissued (status_in g y)) (set g y 0xA5) g)) (withdraw_answered blank_register) 10
   -- Demand 3 rules out any other walk after an open. A fresh walk is closed: an open one would be the walk of the number 0.

@@ -1,7 +1,7 @@
 -- The search with the losses of the sheet.
 use mathlib.Core.Path.{◌∙◌}
 use mathlib.Core.List.{[]}
-use Rattle.ceilings.proofs.Found.{soiled-is}
+use Rattle.ceilings.proofs.Found.{soiled_is}
 use Rattle.ceilings.proofs.soiled_with_losses.Goals as goal
 
 pub premium_most-most-requires : goal.premium_most-most-requires
@@ -13,4 +13,4 @@ pub returns : goal.returns
 returns c =
     let a = c.args in
     c.any_over.ensures
-    ∙ soiled-is a.pool a.attachments.now [] [] [] a.accruals.now [] a.defaults.now a.premiums.now a.position _ c.premium_most-most.ensures.0
+    ∙ soiled_is a.pool a.attachments.now [] [] [] a.accruals.now [] a.defaults.now a.premiums.now a.position _ c.premium_most-most.ensures.0
