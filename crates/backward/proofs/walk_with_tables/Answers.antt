@@ -14,36 +14,30 @@ use Rattle.backward.proofs.BetweenSteps.{steps_none, steps_more, discount_there,
 use Rattle.backward.proofs.walk_with_tables.Goals as goal
 
 pub payments-requires : goal.payments-requires
-payments-requires c = let fits : TranchesWithin (bare c.args.sheet.pool c.part-attachments.result.now) = let s = c in
-    subst (λ (l : List ℕ). TranchesWithin (bare s.args.sheet.pool l)) (sym c.part-attachments.ensures)
-    (tranches_bare s.args.sheet.pool _ _ _ _ _ _ s.requires.rollable.limits.tranches) in
-    let p = c in record { tranches_within = fits; table_len = c.requires.paid_len }
+payments-requires c = let fits : TranchesWithin (bare c.args.sheet.pool c.part-attachments.result.now) = subst (λ (l : List ℕ). TranchesWithin (bare c.args.sheet.pool l)) (sym c.part-attachments.ensures)
+    (tranches_bare c.args.sheet.pool _ _ _ _ _ _ c.requires.rollable.limits.tranches) in
+    record { tranches_within = fits; table_len = c.requires.paid_len }
 
 pub outstandings_due-requires : goal.outstandings_due-requires
-outstandings_due-requires c = let fits : TranchesWithin (bare c.args.sheet.pool c.part-attachments.result.now) = let s = c in
-    subst (λ (l : List ℕ). TranchesWithin (bare s.args.sheet.pool l)) (sym c.part-attachments.ensures)
-    (tranches_bare s.args.sheet.pool _ _ _ _ _ _ s.requires.rollable.limits.tranches) in
-    let p = c in
-    let s = c in
-    let e : length p.part-accruals.result.now ≡ length (terms_in s.args.sheet s.args.numbers.now).accruals = ap length p.part-accruals.ensures in
-    let f : length p.part-elapsed.result.now ≡ length (terms_in s.args.sheet s.args.numbers.now).elapsed = ap length p.part-elapsed.ensures in record {
-      tranches_within = (fits, s.requires.left_len.0);
+outstandings_due-requires c = let fits : TranchesWithin (bare c.args.sheet.pool c.part-attachments.result.now) = subst (λ (l : List ℕ). TranchesWithin (bare c.args.sheet.pool l)) (sym c.part-attachments.ensures)
+    (tranches_bare c.args.sheet.pool _ _ _ _ _ _ c.requires.rollable.limits.tranches) in
+    let e : length c.part-accruals.result.now ≡ length (terms_in c.args.sheet c.args.numbers.now).accruals = ap length c.part-accruals.ensures in
+    let f : length c.part-elapsed.result.now ≡ length (terms_in c.args.sheet c.args.numbers.now).elapsed = ap length c.part-elapsed.ensures in record {
+      tranches_within = (fits, c.requires.left_len.0);
       position_in_bounds = (
-        omega (arith, s.requires.rollable.position_most, s.requires.rollable.limits.curves.accruals),
-        omega (arith, s.requires.rollable.position_most, s.requires.rollable.limits.curves.elapsed),
-        s.requires.rollable.count_most,
+        omega (arith, c.requires.rollable.position_most, c.requires.rollable.limits.curves.accruals),
+        omega (arith, c.requires.rollable.position_most, c.requires.rollable.limits.curves.elapsed),
+        c.requires.rollable.count_most,
       );
     }
 
 pub loop-done-init : goal.loop-done-init
 loop-done-init c =
-    let p = c in
-    let s = c in
-    steps_none s.args.sheet.pool _ _ _ _ _ _ _ _ _ _ _ _
-    c.part-attachments.ensures p.part-starts.ensures p.part-hazards.ensures p.part-discounts.ensures
-    p.part-accruals.ensures p.part-elapsed.ensures
-    _ _ _ _ _ _ _ _ s.requires.rollable c.payments.ensures c.outstandings_due.ensures
-    s.requires.left_len.0 s.requires.left_len.1 s.requires.earned_len.0 s.requires.earned_len.1
+    steps_none c.args.sheet.pool _ _ _ _ _ _ _ _ _ _ _ _
+    c.part-attachments.ensures c.part-starts.ensures c.part-hazards.ensures c.part-discounts.ensures
+    c.part-accruals.ensures c.part-elapsed.ensures
+    _ _ _ _ _ _ _ _ c.requires.rollable c.payments.ensures c.outstandings_due.ensures
+    c.requires.left_len.0 c.requires.left_len.1 c.requires.earned_len.0 c.requires.earned_len.1
 
 pub overflow_add-done : goal.overflow_add-done
 overflow_add-done c = omega (arith, c.loop-done.invariant.ready.count_most)
@@ -122,7 +116,7 @@ roll_all-requires c =
     let names : ℕ = c.args.sheet.pool.names in
     let into : List ℕ = take (c.hazards_from-a.result + names - c.hazards_from-a.result) (drop c.hazards_from-a.result c.part-hazards.result.now) in
     let into-is : into ≡ hazards_at names c.part-starts.result.now c.part-hazards.result.now (to + 1) = hazards_part names _ _ (to + 1) c.hazards_from-a.result _ c.hazards_from-a.ensures refl in
-    let h = c in roll_fits c.loop-done.invariant to refl c.loop-done-test.true _ into-is
+    roll_fits c.loop-done.invariant to refl c.loop-done-test.true _ into-is
 
 pub accrue-requires : goal.accrue-requires
 accrue-requires c = let to : ℕ = c.args.position - (c.loop-done.done + 1) in
@@ -153,10 +147,7 @@ roll_all-requires-in-loop-done c =
     let names : ℕ = c.args.sheet.pool.names in
     let into : List ℕ = take (c.hazards_from-a.result + names - c.hazards_from-a.result) (drop c.hazards_from-a.result c.part-hazards.result.now) in
     let into-is : into ≡ hazards_at names c.part-starts.result.now c.part-hazards.result.now (to + 1) = hazards_part names _ _ (to + 1) c.hazards_from-a.result _ c.hazards_from-a.ensures refl in
-    let t = c in
-    let a = c in
-    let h = c in
-    accrued_fits c.loop-done.invariant to refl c.loop-done-test.true _ into-is _ _ a.accrue.ensures t.earn.ensures
+    accrued_fits c.loop-done.invariant to refl c.loop-done-test.true _ into-is _ _ c.accrue.ensures c.earn.ensures
 
 pub loop-done-preserved : goal.loop-done-preserved
 loop-done-preserved c =
@@ -164,11 +155,7 @@ loop-done-preserved c =
     let names : ℕ = c.args.sheet.pool.names in
     let into : List ℕ = take (c.hazards_from-a.result + names - c.hazards_from-a.result) (drop c.hazards_from-a.result c.part-hazards.result.now) in
     let into-is : into ≡ hazards_at names c.part-starts.result.now c.part-hazards.result.now (to + 1) = hazards_part names _ _ (to + 1) c.hazards_from-a.result _ c.hazards_from-a.ensures refl in
-    let t = c in
-    let a = c in
-    let r = c in
-    let h = c in
-    steps_more c.loop-done.invariant to refl c.loop-done-test.true _ into-is _ _ _ _ r.roll_all.ensures a.accrue.ensures t.earn.ensures
+    steps_more c.loop-done.invariant to refl c.loop-done-test.true _ into-is _ _ _ _ c.roll_all.ensures c.accrue.ensures c.earn.ensures
     c.roll_all-in-loop-done.ensures
 
 pub shape_of-defaults : goal.shape_of-defaults
@@ -182,6 +169,5 @@ shape_of-earned c = earned_long c.loop-done.invariant ∙ sym c.requires.earned_
 
 pub returns : goal.returns
 returns c = let g = c.loop-done.invariant in
-    let s = c in
-    let e : c.loop-done.done ≡ s.args.count = omega (arith, g.most) in
+    let e : c.loop-done.done ≡ c.args.count = omega (arith, g.most) in
     record { defaults_after = defaults_end g e; premiums_after = premiums_end g e }

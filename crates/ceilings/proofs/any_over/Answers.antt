@@ -39,7 +39,6 @@ pub left_to_lose-left-requires : goal.left_to_lose-left-requires
 left_to_lose-left-requires c =
     let x : Terms = bare c.args.pool c.args.attachments.now in
     let j : ℕ = c.search.j in
-    let i = c in
     omega (arith, c.lower_of-lower.ensures, c.upper_of-upper.ensures, points_rise x c.requires.tranches_within.0 j)
 
 pub offset_bounds-defaults-place : goal.offset_bounds-defaults-place
@@ -57,11 +56,11 @@ bounds-defaults-place c =
     let j : ℕ = c.search.j in
     let k : ℕ = c.loop-k.k in
     let inside : c.loop-k.place < suc c.args.pool.tranches * suc c.args.pool.names = omega (arith, digits_lt {q = j} {m = suc c.args.pool.tranches} {r = k} {c = suc c.args.pool.names} (omega arith) (omega arith), c.loop-k.invariant.1.0) in
-    let i = c in omega (arith, inside, c.requires.defaults_len.0)
+    omega (arith, inside, c.requires.defaults_len.0)
 
 pub overflow_add-most : goal.overflow_add-most
 unfolding B
-overflow_add-most c = let i = c in omega (arith, c.requires.tranches_within.2, c.requires.tranches_within.0.pool.names)
+overflow_add-most c = omega (arith, c.requires.tranches_within.2, c.requires.tranches_within.0.pool.names)
 
 pub offset_bounds-premiums-place : goal.offset_bounds-premiums-place
 offset_bounds-premiums-place c =
@@ -78,7 +77,7 @@ bounds-premiums-place c =
     let j : ℕ = c.search.j in
     let k : ℕ = c.loop-k.k in
     let inside : c.loop-k.place < suc c.args.pool.tranches * suc c.args.pool.names = omega (arith, digits_lt {q = j} {m = suc c.args.pool.tranches} {r = k} {c = suc c.args.pool.names} (omega arith) (omega arith), c.loop-k.invariant.1.0) in
-    let i = c in omega (arith, inside, c.requires.defaults_len.1)
+    omega (arith, inside, c.requires.defaults_len.1)
 
 pub overflow_add-place : goal.overflow_add-place
 overflow_add-place c =
@@ -98,10 +97,8 @@ loop-k-preserved c =
     let x : Terms = bare c.args.pool c.args.attachments.now in
     let j : ℕ = c.search.j in
     let k : ℕ = c.loop-k.k in
-    let left_is : c.left_to_lose-left.result ≡ default_most x j k = let i = c in
-    ceiling_read x j k _ _ _ _ (omega arith) c.lower_of-lower.ensures c.upper_of-upper.ensures c.requires.tranches_within.1 c.left_to_lose-left.ensures in
-    let i = c in
-    let v = i.loop-k.invariant in (
+    let left_is : c.left_to_lose-left.result ≡ default_most x j k = ceiling_read x j k _ _ _ _ (omega arith) c.lower_of-lower.ensures c.upper_of-upper.ensures c.requires.tranches_within.1 c.left_to_lose-left.ensures in
+    let v = c.loop-k.invariant in (
       omega arith,
       (
         omega (arith, v.1.0),
@@ -135,15 +132,12 @@ returns-then-left-defaults c =
     let x : Terms = bare c.args.pool c.args.attachments.now in
     let j : ℕ = c.search.j in
     let k : ℕ = c.loop-k.k in
-    let left_is : c.left_to_lose-left.result ≡ default_most x j k = let i = c in
-    ceiling_read x j k _ _ _ _ (omega arith) c.lower_of-lower.ensures c.upper_of-upper.ensures c.requires.tranches_within.1 c.left_to_lose-left.ensures in
-    let i = c in
-    sym (over_found (suc c.args.pool.tranches) (suc c.args.pool.names) (over_at x _ _ _) j k (omega arith) (omega arith) (over_default x _ _ _ j k _ i.loop-k.invariant.1.0 _ left_is c.if-left-defaults.true))
+    let left_is : c.left_to_lose-left.result ≡ default_most x j k = ceiling_read x j k _ _ _ _ (omega arith) c.lower_of-lower.ensures c.upper_of-upper.ensures c.requires.tranches_within.1 c.left_to_lose-left.ensures in
+    sym (over_found (suc c.args.pool.tranches) (suc c.args.pool.names) (over_at x _ _ _) j k (omega arith) (omega arith) (over_default x _ _ _ j k _ c.loop-k.invariant.1.0 _ left_is c.if-left-defaults.true))
 
 pub returns-then-most-names : goal.returns-then-most-names
 returns-then-most-names c =
     let x : Terms = bare c.args.pool c.args.attachments.now in
     let j : ℕ = c.search.j in
     let k : ℕ = c.loop-k.k in
-    let i = c in
-    sym (over_found (suc c.args.pool.tranches) (suc c.args.pool.names) (over_at x _ _ _) j k (omega arith) (omega arith) (over_premium x _ _ _ j k _ i.loop-k.invariant.1.0 c.if-most-names.true))
+    sym (over_found (suc c.args.pool.tranches) (suc c.args.pool.names) (over_at x _ _ _) j k (omega arith) (omega arith) (over_premium x _ _ _ j k _ c.loop-k.invariant.1.0 c.if-most-names.true))

@@ -25,19 +25,16 @@ slice_bounds-soiled_with_losses-end c =
 
 pub soiled_with_losses-requires : goal.soiled_with_losses-requires
 soiled_with_losses-requires c = let counts : c.args.sheet.pool.names + 1 ≤ 126 = omega (arith, c.requires.terms_within.tranches.pool.names) in
-    let p = c in
-    let s = c in
-    let pool = s.args.sheet.pool in record {
+    let pool = c.args.sheet.pool in record {
       tranches_within = (
-        rw p.part-attachments.ensures (tranches_bare pool _ _ _ _ _ _ s.requires.terms_within.tranches),
-        rw p.part-accruals.ensures s.requires.terms_within.accruals.total,
+        rw c.part-attachments.ensures (tranches_bare pool _ _ _ _ _ _ c.requires.terms_within.tranches),
+        rw c.part-accruals.ensures c.requires.terms_within.accruals.total,
         sym (front _ _ 126 refl counts) ∙ add-one pool.names,
       );
-      defaults_len = s.requires.defaults_len;
+      defaults_len = c.requires.defaults_len;
     }
 
 pub returns : goal.returns
 returns c =
-    let p = c in
     c.soiled_with_losses.ensures
-    ∙ soiled_part c.args.sheet.pool _ _ _ _ _ _ _ _ p.part-attachments.ensures p.part-accruals.ensures _ _ _
+    ∙ soiled_part c.args.sheet.pool _ _ _ _ _ _ _ _ c.part-attachments.ensures c.part-accruals.ensures _ _ _

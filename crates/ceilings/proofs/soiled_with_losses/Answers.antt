@@ -6,8 +6,7 @@ use Rattle.ceilings.proofs.soiled_with_losses.Goals as goal
 
 pub premium_most-most-requires : goal.premium_most-most-requires
 premium_most-most-requires c =
-    let s = c.before in
-    (s.requires.tranches_within.1, s.requires.tranches_within.0.pool.steps.1)
+    (c.requires.tranches_within.1, c.requires.tranches_within.0.pool.steps.1)
 
 pub returns : goal.returns
 returns c =

@@ -16,7 +16,6 @@ tranches_refusal-tranches-requires c = c.requires.1
 pub returns-in-Refused : goal.returns-in-Refused
 returns-in-Refused c =
     let X : Brought = brought_in c.args.sheet c.args.numbers.now in
-    let t = c in
     sym (joined_refused (tranche_tests X.sheet []) _ _ (sym c.in-Refused.ensures))
 
 pub tree_refusal-tree-requires : goal.tree_refusal-tree-requires
@@ -35,8 +34,7 @@ returns-then-any_above c =
     let tranches-fine : first (tranche_tests X.sheet []) ≡ Fine = sym c.in_default.ensures in
     let tree-fine : first (tree_tests X.sheet []) ≡ Fine = sym c.in_default-tree.ensures in
     let coupons : c.any_above.result ≡ coupons_bad X = coupons_told X c.part-coupons.ensures c.requires.1.2 c.any_above.ensures in
-    let others : let x = X in first (tranche_tests x.sheet (tree_tests x.sheet ((coupons_bad x, Coupon) ∷ []))) ≡ first ((coupons_bad x, Coupon) ∷ []) = let e = c in
-    let x = X in
+    let others : let x = X in first (tranche_tests x.sheet (tree_tests x.sheet ((coupons_bad x, Coupon) ∷ []))) ≡ first ((coupons_bad x, Coupon) ∷ []) = let x = X in
     joined_fine (tranche_tests x.sheet []) _ tranches-fine ∙ joined_fine (tree_tests x.sheet []) _ tree-fine in
     sym (others ∙ first_met _ _ _ (sym coupons ∙ c.if-any_above.true))
 
@@ -46,7 +44,6 @@ returns c =
     let tranches-fine : first (tranche_tests X.sheet []) ≡ Fine = sym c.in_default.ensures in
     let tree-fine : first (tree_tests X.sheet []) ≡ Fine = sym c.in_default-tree.ensures in
     let coupons : c.any_above.result ≡ coupons_bad X = coupons_told X c.part-coupons.ensures c.requires.1.2 c.any_above.ensures in
-    let others : let x = X in first (tranche_tests x.sheet (tree_tests x.sheet ((coupons_bad x, Coupon) ∷ []))) ≡ first ((coupons_bad x, Coupon) ∷ []) = let e = c in
-    let x = X in
+    let others : let x = X in first (tranche_tests x.sheet (tree_tests x.sheet ((coupons_bad x, Coupon) ∷ []))) ≡ first ((coupons_bad x, Coupon) ∷ []) = let x = X in
     joined_fine (tranche_tests x.sheet []) _ tranches-fine ∙ joined_fine (tree_tests x.sheet []) _ tree-fine in
     sym (others ∙ first_passed _ _ _ (sym coupons ∙ c.if-any_above.false) ∙ first_none)

@@ -32,7 +32,6 @@ unfolding sheet_tests pool_bad
 returns-then-lent c =
     let X : Brought = brought_in c.args.sheet c.args.numbers.now in
     let pool-kept : pool_bad X.sheet ≡ false = sym c.pool_outside.ensures ∙ c.if-pool_outside.false in
-    let i = c in
     sym (first_passed _ _ _ pool-kept ∙ first_met _ _ _ (met_right (lists_bad X) _ c.if-lent.true))
 
 pub figures_refusal-requires : goal.figures_refusal-requires
@@ -49,7 +48,5 @@ returns c =
     let X : Brought = brought_in c.args.sheet c.args.numbers.now in
     let pool-kept : pool_bad X.sheet ≡ false = sym c.pool_outside.ensures ∙ c.if-pool_outside.false in
     let lists-kept : lists_bad X ≡ false = sym c.lists_differ.ensures ∙ c.if-lists_differ.false in
-    let e = c in
-    let i = e.before in
     c.figures_refusal.ensures
-    ∙ sym (first_passed _ _ _ pool-kept ∙ first_passed _ _ _ (neither _ _ lists-kept e.if-lent.false))
+    ∙ sym (first_passed _ _ _ pool-kept ∙ first_passed _ _ _ (neither _ _ lists-kept c.if-lent.false))

@@ -19,13 +19,11 @@ attachments_bad-requires c = ap length c.part-attachments.ensures ∙ c.requires
 pub returns-then-attachments_bad : goal.returns-then-attachments_bad
 unfolding recovery_bad B
 returns-then-attachments_bad c =
-    let told : let s = c in c.attachments_bad.result ≡ attachments_bad (terms_in s.args.sheet s.args.numbers.now) = c.attachments_bad.ensures ∙ attachments_part c.args.sheet.pool _ _ _ _ _ _ _ c.part-attachments.ensures in
-    let i = c in
-    sym (first_passed _ _ _ (le-ltb _ _ i.if-pool-gt-UNITS.false) ∙ first_met _ _ _ (sym told ∙ c.if-attachments_bad.true))
+    let told : c.attachments_bad.result ≡ attachments_bad (terms_in c.args.sheet c.args.numbers.now) = c.attachments_bad.ensures ∙ attachments_part c.args.sheet.pool _ _ _ _ _ _ _ c.part-attachments.ensures in
+    sym (first_passed _ _ _ (le-ltb _ _ c.if-pool-gt-UNITS.false) ∙ first_met _ _ _ (sym told ∙ c.if-attachments_bad.true))
 
 pub returns : goal.returns
 unfolding recovery_bad B
 returns c =
-    let told : let s = c in c.attachments_bad.result ≡ attachments_bad (terms_in s.args.sheet s.args.numbers.now) = c.attachments_bad.ensures ∙ attachments_part c.args.sheet.pool _ _ _ _ _ _ _ c.part-attachments.ensures in
-    let i = c in
-    sym (first_passed _ _ _ (le-ltb _ _ i.if-pool-gt-UNITS.false) ∙ first_passed _ _ _ (sym told ∙ c.if-attachments_bad.false) ∙ first_none)
+    let told : c.attachments_bad.result ≡ attachments_bad (terms_in c.args.sheet c.args.numbers.now) = c.attachments_bad.ensures ∙ attachments_part c.args.sheet.pool _ _ _ _ _ _ _ c.part-attachments.ensures in
+    sym (first_passed _ _ _ (le-ltb _ _ c.if-pool-gt-UNITS.false) ∙ first_passed _ _ _ (sym told ∙ c.if-attachments_bad.false) ∙ first_none)

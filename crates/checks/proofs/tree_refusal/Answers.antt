@@ -36,17 +36,14 @@ returns-then-any_outside c =
     let X : Terms = terms_in c.args.sheet c.args.numbers.now in
     let starts : c.starts_bad.result ≡ starts_bad X = c.starts_bad.ensures ∙ starts_part c.args.sheet.pool _ _ _ _ _ _ _ c.part-starts.ensures in
     let hazards : c.any_above.result ≡ hazards_bad X = hazards_told X c.part-hazards.ensures c.any_above.ensures in
-    let discounts : c.any_outside.result ≡ discounts_bad X = let s = c in
-    discounts_told X c.part-discounts.ensures s.requires.1.1.discounts c.any_outside.ensures in
+    let discounts : c.any_outside.result ≡ discounts_bad X = discounts_told X c.part-discounts.ensures c.requires.1.1.discounts c.any_outside.ensures in
     let fine-25 : starts_bad X ≡ false = sym starts ∙ c.if-starts_bad.false in
     let fine-5 : hazards_bad X ≡ false = sym hazards ∙ c.if-any_above.false in
-    let i = c in
     sym (first_passed _ _ _ fine-25 ∙ first_passed _ _ _ fine-5 ∙ first_met _ _ _ (sym discounts ∙ c.if-any_outside.true))
 
 pub accruals_bad-requires : goal.accruals_bad-requires
 accruals_bad-requires c =
-    let s = c in
-    (s.requires.0.steps.0, s.requires.0.steps.1, ap length c.part-accruals.ensures ∙ s.requires.1.1.accruals)
+    (c.requires.0.steps.0, c.requires.0.steps.1, ap length c.part-accruals.ensures ∙ c.requires.1.1.accruals)
 
 pub returns-then-accruals_bad : goal.returns-then-accruals_bad
 unfolding B
@@ -54,22 +51,17 @@ returns-then-accruals_bad c =
     let X : Terms = terms_in c.args.sheet c.args.numbers.now in
     let starts : c.starts_bad.result ≡ starts_bad X = c.starts_bad.ensures ∙ starts_part c.args.sheet.pool _ _ _ _ _ _ _ c.part-starts.ensures in
     let hazards : c.any_above.result ≡ hazards_bad X = hazards_told X c.part-hazards.ensures c.any_above.ensures in
-    let discounts : c.any_outside.result ≡ discounts_bad X = let s = c in
-    discounts_told X c.part-discounts.ensures s.requires.1.1.discounts c.any_outside.ensures in
+    let discounts : c.any_outside.result ≡ discounts_bad X = discounts_told X c.part-discounts.ensures c.requires.1.1.discounts c.any_outside.ensures in
     let accruals : c.accruals_bad.result ≡ accruals_bad X = c.accruals_bad.ensures ∙ accruals_part c.args.sheet.pool _ _ _ _ _ _ _ c.part-accruals.ensures in
     let fine-25 : starts_bad X ≡ false = sym starts ∙ c.if-starts_bad.false in
     let fine-5 : hazards_bad X ≡ false = sym hazards ∙ c.if-any_above.false in
     let fine-6 : discounts_bad X ≡ false = sym discounts ∙ c.if-any_outside.false in
-    let j = c in
-    let i = j.before in
     sym (first_passed _ _ _ fine-25 ∙ first_passed _ _ _ fine-5 ∙ first_passed _ _ _ fine-6
     ∙ first_met _ _ _ (sym accruals ∙ c.if-accruals_bad.true))
 
 pub elapsed_bad-requires : goal.elapsed_bad-requires
 elapsed_bad-requires c =
-    let a = c in
-    let s = c in
-    (ap length a.before.part-accruals.ensures ∙ s.requires.1.1.accruals, ap length c.part-elapsed.ensures ∙ s.requires.1.1.elapsed)
+    (ap length c.part-accruals.ensures ∙ c.requires.1.1.accruals, ap length c.part-elapsed.ensures ∙ c.requires.1.1.elapsed)
 
 pub returns-then-elapsed_bad : goal.returns-then-elapsed_bad
 unfolding B
@@ -77,17 +69,14 @@ returns-then-elapsed_bad c =
     let X : Terms = terms_in c.args.sheet c.args.numbers.now in
     let starts : c.starts_bad.result ≡ starts_bad X = c.starts_bad.ensures ∙ starts_part c.args.sheet.pool _ _ _ _ _ _ _ c.part-starts.ensures in
     let hazards : c.any_above.result ≡ hazards_bad X = hazards_told X c.part-hazards.ensures c.any_above.ensures in
-    let discounts : c.any_outside.result ≡ discounts_bad X = let s = c in
-    discounts_told X c.part-discounts.ensures s.requires.1.1.discounts c.any_outside.ensures in
+    let discounts : c.any_outside.result ≡ discounts_bad X = discounts_told X c.part-discounts.ensures c.requires.1.1.discounts c.any_outside.ensures in
     let accruals : c.accruals_bad.result ≡ accruals_bad X = c.accruals_bad.ensures ∙ accruals_part c.args.sheet.pool _ _ _ _ _ _ _ c.part-accruals.ensures in
     let elapsed : c.elapsed_bad.result ≡ elapsed_bad X = c.elapsed_bad.ensures
     ∙ elapsed_part c.args.sheet.pool _ _ _ _ _ _ _ _ c.part-accruals.ensures c.part-elapsed.ensures in
     let fine-25 : starts_bad X ≡ false = sym starts ∙ c.if-starts_bad.false in
     let fine-5 : hazards_bad X ≡ false = sym hazards ∙ c.if-any_above.false in
     let fine-6 : discounts_bad X ≡ false = sym discounts ∙ c.if-any_outside.false in
-    let fine-7 : (l : List Test) → let x = X in first ((starts_bad x, Periods) ∷ (hazards_bad x, Hazard) ∷ (discounts_bad x, Discount) ∷ (accruals_bad x, Accrual) ∷ l) ≡ first l = λ l. let d = c in
-    let a = d.before in
-    first_passed _ _ _ fine-25 ∙ first_passed _ _ _ fine-5 ∙ first_passed _ _ _ fine-6
+    let fine-7 : (l : List Test) → let x = X in first ((starts_bad x, Periods) ∷ (hazards_bad x, Hazard) ∷ (discounts_bad x, Discount) ∷ (accruals_bad x, Accrual) ∷ l) ≡ first l = λ l. first_passed _ _ _ fine-25 ∙ first_passed _ _ _ fine-5 ∙ first_passed _ _ _ fine-6
     ∙ first_passed _ _ _ (sym accruals ∙ c.if-accruals_bad.false) in
     sym (fine-7 _ ∙ first_met _ _ _ (sym elapsed ∙ c.if-elapsed_bad.true))
 
@@ -97,16 +86,13 @@ returns c =
     let X : Terms = terms_in c.args.sheet c.args.numbers.now in
     let starts : c.starts_bad.result ≡ starts_bad X = c.starts_bad.ensures ∙ starts_part c.args.sheet.pool _ _ _ _ _ _ _ c.part-starts.ensures in
     let hazards : c.any_above.result ≡ hazards_bad X = hazards_told X c.part-hazards.ensures c.any_above.ensures in
-    let discounts : c.any_outside.result ≡ discounts_bad X = let s = c in
-    discounts_told X c.part-discounts.ensures s.requires.1.1.discounts c.any_outside.ensures in
+    let discounts : c.any_outside.result ≡ discounts_bad X = discounts_told X c.part-discounts.ensures c.requires.1.1.discounts c.any_outside.ensures in
     let accruals : c.accruals_bad.result ≡ accruals_bad X = c.accruals_bad.ensures ∙ accruals_part c.args.sheet.pool _ _ _ _ _ _ _ c.part-accruals.ensures in
     let elapsed : c.elapsed_bad.result ≡ elapsed_bad X = c.elapsed_bad.ensures
     ∙ elapsed_part c.args.sheet.pool _ _ _ _ _ _ _ _ c.part-accruals.ensures c.part-elapsed.ensures in
     let fine-25 : starts_bad X ≡ false = sym starts ∙ c.if-starts_bad.false in
     let fine-5 : hazards_bad X ≡ false = sym hazards ∙ c.if-any_above.false in
     let fine-6 : discounts_bad X ≡ false = sym discounts ∙ c.if-any_outside.false in
-    let fine-7 : (l : List Test) → let x = X in first ((starts_bad x, Periods) ∷ (hazards_bad x, Hazard) ∷ (discounts_bad x, Discount) ∷ (accruals_bad x, Accrual) ∷ l) ≡ first l = λ l. let d = c in
-    let a = d.before in
-    first_passed _ _ _ fine-25 ∙ first_passed _ _ _ fine-5 ∙ first_passed _ _ _ fine-6
+    let fine-7 : (l : List Test) → let x = X in first ((starts_bad x, Periods) ∷ (hazards_bad x, Hazard) ∷ (discounts_bad x, Discount) ∷ (accruals_bad x, Accrual) ∷ l) ≡ first l = λ l. first_passed _ _ _ fine-25 ∙ first_passed _ _ _ fine-5 ∙ first_passed _ _ _ fine-6
     ∙ first_passed _ _ _ (sym accruals ∙ c.if-accruals_bad.false) in
     sym (fine-7 _ ∙ first_passed _ _ _ (sym elapsed ∙ c.if-elapsed_bad.false) ∙ first_none)

@@ -9,11 +9,9 @@ use Rattle.elapsed.proofs.earn.Goals as goal
 
 pub returns-then-fraction-held : goal.returns-then-fraction-held
 returns-then-fraction-held c =
-    let s = c.before in
-    s.requires.table_value
-    ∙ ap (λ (f : ℕ). grid (suc s.args.tranches) (suc s.args.names) (earned_in s.args.names f s.args.outstandings.now)) (sym c.if-fraction-held.true)
+    c.requires.table_value
+    ∙ ap (λ (f : ℕ). grid (suc c.args.tranches) (suc c.args.names) (earned_in c.args.names f c.args.outstandings.now)) (sym c.if-fraction-held.true)
 
 pub earned_rows-requires : goal.earned_rows-requires
 earned_rows-requires c =
-    let s = c.before in
-    (s.requires.fraction_bound.0, s.requires.fraction_bound.1, ap length s.requires.table_value ∙ length_grid _ _ _)
+    (c.requires.fraction_bound.0, c.requires.fraction_bound.1, ap length c.requires.table_value ∙ length_grid _ _ _)

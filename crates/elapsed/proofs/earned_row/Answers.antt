@@ -13,27 +13,22 @@ loop-k-init c = (omega arith, swept_none _ _)
 
 pub elapsed_payment-requires : goal.elapsed_payment-requires
 elapsed_payment-requires c =
-    let i = c in
-    let s = c in
-    let k = i.before.loop-k.k in
-    (s.requires.0, s.requires.1.most k (omega arith), rw (add-one k) (s.requires.1.falls k i.loop-k-test.true))
+    let k = c.loop-k.k in
+    (c.requires.0, c.requires.1.most k (omega arith), rw (add-one k) (c.requires.1.falls k c.loop-k-test.true))
 
 pub loop-k-preserved : goal.loop-k-preserved
 loop-k-preserved c =
-    let i = c in
-    let s = c in
-    let v = i.before.loop-k.invariant in (
+    let v = c.loop-k.invariant in (
       omega arith,
-      swept_more _ _ _ _ _ v.1 (omega (arith, v.1.same, s.requires.2))
-          (c.elapsed_payment.ensures ∙ sym (earned_before s.args.names s.args.fraction s.args.outstandings.now i.before.loop-k.k i.loop-k-test.true)),
+      swept_more _ _ _ _ _ v.1 (omega (arith, v.1.same, c.requires.2))
+          (c.elapsed_payment.ensures ∙ sym (earned_before c.args.names c.args.fraction c.args.outstandings.now c.loop-k.k c.loop-k-test.true)),
     )
 
 pub returns : goal.returns
 returns c =
-    let s = c in
-    let n = s.args.names in
+    let n = c.args.names in
     let e : c.loop-k.k ≡ n = omega (arith, c.loop-k.invariant.0) in
-    let w : Swept (earned_at n s.args.fraction s.args.outstandings.now) s.args.row.now c.loop-k.row n = rw e at c.loop-k.invariant.1 in
+    let w : Swept (earned_at n c.args.fraction c.args.outstandings.now) c.args.row.now c.loop-k.row n = rw e at c.loop-k.invariant.1 in
     swept_tab (suc n)
-    (swept_more _ _ _ _ _ w (omega (arith, w.same, s.requires.2)) (sym (earned_last n s.args.fraction s.args.outstandings.now)))
-    s.requires.2 (add-one n)
+    (swept_more _ _ _ _ _ w (omega (arith, w.same, c.requires.2)) (sym (earned_last n c.args.fraction c.args.outstandings.now)))
+    c.requires.2 (add-one n)

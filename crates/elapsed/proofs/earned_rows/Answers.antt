@@ -41,11 +41,10 @@ slice_bounds-earned_row-end-in-loop-j c =
 
 pub earned_row-requires : goal.earned_row-requires
 earned_row-requires c =
-    let long : ℕ = c.loop-j.a + c.args.names + 1 - c.loop-j.a in
-    let i = c in (
+    let long : ℕ = c.loop-j.a + c.args.names + 1 - c.loop-j.a in (
       c.requires.0,
-      tranche_falls c.requires.1 (omega arith) i.before.loop-j.invariant.start long (omega arith),
-      part_long i.before.loop-j.invariant c.requires.2 (omega arith) long (omega arith),
+      tranche_falls c.requires.1 (omega arith) c.loop-j.invariant.start long (omega arith),
+      part_long c.loop-j.invariant c.requires.2 (omega arith) long (omega arith),
     )
 
 pub overflow_add-j : goal.overflow_add-j
@@ -56,8 +55,7 @@ overflow_add-j c =
 pub loop-j-preserved : goal.loop-j-preserved
 loop-j-preserved c =
     let long : ℕ = c.loop-j.a + c.args.names + 1 - c.loop-j.a in
-    let i = c in
-    tranche_filled _ c.requires.1 i.before.loop-j.invariant c.requires.2 (omega arith) long (i.before.loop-j.a + c.args.names + 1) _ (omega arith) (omega arith) c.earned_row.ensures
+    tranche_filled _ c.requires.1 c.loop-j.invariant c.requires.2 (omega arith) long (c.loop-j.a + c.args.names + 1) _ (omega arith) (omega arith) c.earned_row.ensures
 
 pub shape_of-table : goal.shape_of-table
 shape_of-table c = c.loop-j.invariant.swept.same

@@ -5,4 +5,4 @@ use Rattle.export.proofs.lavroudem_back.Goals as goal
 
 pub returns : goal.returns
 returns c =
-    back_returned _ _ _ _ c.before.back-reply.result _ _ _ _ c.before.back-reply.ensures.gives c.number_in.ensures c.position_in.ensures refl
+    back_returned _ _ _ _ c.back-reply.result _ _ _ _ c.back-reply.ensures.gives c.number_in.ensures c.position_in.ensures refl

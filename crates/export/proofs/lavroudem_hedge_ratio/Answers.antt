@@ -8,5 +8,5 @@ use Rattle.export.proofs.lavroudem_hedge_ratio.Goals as goal
 
 pub returns : goal.returns
 returns c =
-    ratio_returned _ _ _ _ c.before.hedge_ratio-reply.result _ _ _ _ _ c.before.hedge_ratio-reply.ensures.gives c.number_in.ensures
+    ratio_returned _ _ _ _ c.hedge_ratio-reply.result _ _ _ _ _ c.hedge_ratio-reply.ensures.gives c.number_in.ensures
     (to_z-of_z w64 _ (search rules) ∙ c.ratio_in.ensures) refl

@@ -8,5 +8,5 @@ use Rattle.export.proofs.lavroudem_value.Goals as goal
 
 pub returns : goal.returns
 returns c =
-    value_returned _ _ _ _ c.before.value-reply.result _ _ _ _ _ c.before.value-reply.ensures.gives c.number_in.ensures
+    value_returned _ _ _ _ c.value-reply.result _ _ _ _ _ c.value-reply.ensures.gives c.number_in.ensures
     c.default_in.ensures c.premium_in.ensures (to_z-of_z w64 _ (search rules) ∙ c.net_in.ensures) refl

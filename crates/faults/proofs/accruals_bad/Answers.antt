@@ -22,13 +22,11 @@ sum-requires c = let l = c.args.accruals.now in
 pub returns-then-sum : goal.returns-then-sum
 unfolding B
 returns-then-sum c =
-    let s = c.before in
-    accruals_told _ {high = false} {over = true} s.requires.2 (sym c.if-any_above.false ∙ s.any_above.ensures)
+    accruals_told _ {high = false} {over = true} c.requires.2 (sym c.if-any_above.false ∙ c.any_above.ensures)
     (over _ (10 * B) _ c.sum.ensures c.if-sum.true) refl
 
 pub returns : goal.returns
 unfolding B
 returns c =
-    let s = c.before in
-    accruals_told _ {high = false} {over = false} s.requires.2 (sym c.if-any_above.false ∙ s.any_above.ensures)
+    accruals_told _ {high = false} {over = false} c.requires.2 (sym c.if-any_above.false ∙ c.any_above.ensures)
     (not_over _ (10 * B) _ c.sum.ensures c.if-sum.false) refl

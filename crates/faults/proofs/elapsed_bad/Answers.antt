@@ -6,9 +6,7 @@ use Rattle.faults.proofs.elapsed_bad.Goals as goal
 
 pub returns-then-not-any_above : goal.returns-then-not-any_above
 returns-then-not-any_above c =
-    let a = c.before in
-    let s = a.before.before.before in
-    elapsed_told _ s.requires.1 (sym (zeros_clear s.args.accruals.now s.args.elapsed.now (sym a.any_above.ensures ∙ c.if-not-any_above.true)))
+    elapsed_told _ c.requires.1 (sym (zeros_clear c.args.accruals.now c.args.elapsed.now (sym c.any_above.ensures ∙ c.if-not-any_above.true)))
 
 pub returns : goal.returns
 returns c = elapsed_told _ c.requires.1 c.elapsed_over.ensures

@@ -15,20 +15,14 @@ loop-i-init c = (search rules, next_none _ c.requires, clear_none _ _)
 
 pub returns-then-next-elapsed : goal.returns-then-next-elapsed
 returns-then-next-elapsed c =
-    let next : let l = c.args.accruals.now in c.next_date-next.result ≡ next_accrual (drop (c.loop-i.i - 1) l) = let l = c in
-    let s = l.before in
-    let fits : l.loop-i.i ≤ length s.args.accruals.now = omega arith in
-    next_down s.args.accruals.now _ _ c.loop-i-test.true fits l.loop-i.invariant.1 c.next_date-next.ensures in
-    let a = c in
+    let next : let l = c.args.accruals.now in c.next_date-next.result ≡ next_accrual (drop (c.loop-i.i - 1) l) = let fits : c.loop-i.i ≤ length c.args.accruals.now = omega arith in
+    next_down c.args.accruals.now _ _ c.loop-i-test.true fits c.loop-i.invariant.1 c.next_date-next.ensures in
     found _ _ (c.loop-i.i - 1) (omega arith) (lt-ltb _ _ (rw (← next) c.if-next-elapsed.true))
 
 pub loop-i-preserved : goal.loop-i-preserved
 loop-i-preserved c =
-    let next : let l = c.args.accruals.now in c.next_date-next.result ≡ next_accrual (drop (c.loop-i.i - 1) l) = let l = c in
-    let s = l.before in
-    let fits : l.loop-i.i ≤ length s.args.accruals.now = omega arith in
-    next_down s.args.accruals.now _ _ c.loop-i-test.true fits l.loop-i.invariant.1 c.next_date-next.ensures in
-    let a = c in
+    let next : let l = c.args.accruals.now in c.next_date-next.result ≡ next_accrual (drop (c.loop-i.i - 1) l) = let fits : c.loop-i.i ≤ length c.args.accruals.now = omega arith in
+    next_down c.args.accruals.now _ _ c.loop-i-test.true fits c.loop-i.invariant.1 c.next_date-next.ensures in
     (omega arith, next, clear_down _ _ _ c.loop-i.invariant.2 (le-ltb _ _ (rw (← next) c.if-next-elapsed.false)))
 
 pub returns : goal.returns

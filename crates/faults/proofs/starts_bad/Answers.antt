@@ -14,5 +14,4 @@ returns-then-any_fall c =
 
 pub returns : goal.returns
 returns c =
-    let f = c.before in
-    starts_told _ {off = false} {fall = false} (kept (differs_fine _ 1) f.if-starts-ne1.false) (sym c.if-any_fall.false ∙ f.any_fall.ensures) c.any_above.ensures
+    starts_told _ {off = false} {fall = false} (kept (differs_fine _ 1) c.if-starts-ne1.false) (sym c.if-any_fall.false ∙ c.any_fall.ensures) c.any_above.ensures

@@ -14,25 +14,21 @@ use Rattle.figures.proofs.Places.{node_figures}
 use Rattle.figures.proofs.jump_at.Goals as goal
 
 pub node_at-next-requires : goal.node_at-next-requires
-node_at-next-requires c = let s = c in record { tranches_within = s.requires.tranches_within; readable = rw (add-one s.args.count) s.requires.readable_2 }
+node_at-next-requires c = record { tranches_within = c.requires.tranches_within; readable = rw (add-one c.args.count) c.requires.readable_2 }
 
 pub jump-requires : goal.jump-requires
 jump-requires c =
     let sheet : Brought = brought_in c.args.sheet c.args.numbers.now in
     let rows : Rows = rows_of c.args.defaults.now c.args.premiums.now in
-    let here : let s = c in c.node_at-here.result ≡ node_of sheet.sheet rows s.args.tranche s.args.count = c.node_at-here.ensures in
-    let next : let s = c in c.node_at-next.result ≡ node_of sheet.sheet rows s.args.tranche (suc s.args.count) = let s = c in c.node_at-next.ensures ∙ ap (node_of sheet.sheet rows s.args.tranche) (add-one s.args.count) in
-    let p = c in
-    let s = c in
-    (omega (arith, c.number_at.ensures, s.requires.readable.coupon), node_figures sheet rows _ _ s.requires.tranches_within s.requires.readable here, node_figures sheet rows _ _ s.requires.tranches_within s.requires.readable_2 next)
+    let here : c.node_at-here.result ≡ node_of sheet.sheet rows c.args.tranche c.args.count = c.node_at-here.ensures in
+    let next : c.node_at-next.result ≡ node_of sheet.sheet rows c.args.tranche (suc c.args.count) = c.node_at-next.ensures ∙ ap (node_of sheet.sheet rows c.args.tranche) (add-one c.args.count) in
+    (omega (arith, c.number_at.ensures, c.requires.readable.coupon), node_figures sheet rows _ _ c.requires.tranches_within c.requires.readable here, node_figures sheet rows _ _ c.requires.tranches_within c.requires.readable_2 next)
 
 pub returns : goal.returns
 unfolding jump
 returns c =
     let sheet : Brought = brought_in c.args.sheet c.args.numbers.now in
     let rows : Rows = rows_of c.args.defaults.now c.args.premiums.now in
-    let here : let s = c in c.node_at-here.result ≡ node_of sheet.sheet rows s.args.tranche s.args.count = c.node_at-here.ensures in
-    let next : let s = c in c.node_at-next.result ≡ node_of sheet.sheet rows s.args.tranche (suc s.args.count) = let s = c in c.node_at-next.ensures ∙ ap (node_of sheet.sheet rows s.args.tranche) (add-one s.args.count) in
-    let p = c in
-    let s = c in
+    let here : c.node_at-here.result ≡ node_of sheet.sheet rows c.args.tranche c.args.count = c.node_at-here.ensures in
+    let next : c.node_at-next.result ≡ node_of sheet.sheet rows c.args.tranche (suc c.args.count) = c.node_at-next.ensures ∙ ap (node_of sheet.sheet rows c.args.tranche) (add-one c.args.count) in
     to_z-of_z w64 c.jump.result (sfits_of c.jump.type_inv) ∙ c.jump.ensures ∙ (λ i. jump_of (c.number_at.ensures i) (here i) (next i))

@@ -52,8 +52,7 @@ push-requires c = let step : ℕ = c.loop-step.step in
     let into : List ℕ = hazards_at c.args.names c.args.starts.now c.args.hazards.now (step + 1) in
     let into-is : take (c.hazards_from-a.result + c.args.names - c.hazards_from-a.result) (drop c.hazards_from-a.result c.args.hazards.now) ≡ into = hazards_part c.args.names _ _ (step + 1) c.hazards_from-a.result _ c.hazards_from-a.ensures refl in
     let into-long : length into ≡ c.args.names = hazards_long _ (curves c.args.names c.args.starts.now c.args.hazards.now c.requires.hazards_fit) (step + 1) in
-    let h = c in
-    let v = h.loop-step in
+    let v = c.loop-step in
     let a = c.args in record { row_len = ap length v.invariant.1 ∙ row_long a.names a.starts.now a.hazards.now v.step ∙ ap (λ n. n + 1) (sym (ap length into-is ∙ into-long)); by_index = row_most a.names a.starts.now a.hazards.now c.requires.hazards_fit v.step v.row v.invariant.1; by_index_2 = λ k. rw into-is (step_most a.names a.starts.now a.hazards.now c.requires.hazards_fit (v.step + 1) k) }
 
 pub loop-step-preserved : goal.loop-step-preserved
@@ -61,12 +60,10 @@ loop-step-preserved c =
     let step : ℕ = c.loop-step.step in
     let into : List ℕ = hazards_at c.args.names c.args.starts.now c.args.hazards.now (step + 1) in
     let into-is : take (c.hazards_from-a.result + c.args.names - c.hazards_from-a.result) (drop c.hazards_from-a.result c.args.hazards.now) ≡ into = hazards_part c.args.names _ _ (step + 1) c.hazards_from-a.result _ c.hazards_from-a.ensures refl in
-    let p = c in
-    let h = c in
-    let v = h.loop-step in
+    let v = c.loop-step in
     let a = c.args in (
       search rules,
-      p.push.ensures
+      c.push.ensures
           ∙ (λ t. pushed_row (into-is t) (v.invariant.1 t))
           ∙ ap (λ n. pushed_row (hazards_at a.names a.starts.now a.hazards.now n) (distribution_row (hazard_sheet a.names a.starts.now a.hazards.now) v.step)) (add-one v.step)
           ∙ row_step a.names a.starts.now a.hazards.now c.requires.hazards_fit v.step

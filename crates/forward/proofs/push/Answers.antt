@@ -27,22 +27,19 @@ unfolding B
 overflow_add-row-in-loop-done c =
     let next : ℕ = length c.args.hazards.now - 1 - c.loop-done.done in
     let held-most : (k : ℕ) → k < length c.args.hazards.now - c.loop-done.done → get_or c.loop-done.row k 0 ≤ B = λ k l. le_trans (le_of_eq (c.loop-done.invariant.1.below k l)) (c.requires.by_index k) in
-    let gone : c.half-moved.result ≤ get_or c.loop-done.row next 0 = let i = c in
-    le_trans (le_of_eq c.half-moved.ensures) (half_part _ _ (c.requires.by_index_2 _)) in
-    let i = c in
+    let gone : c.half-moved.result ≤ get_or c.loop-done.row next 0 = le_trans (le_of_eq c.half-moved.ensures) (half_part _ _ (c.requires.by_index_2 _)) in
     let a = c.args in
     omega (
       arith,
       gone,
       held-most next (omega arith),
-      pushing_most _ a.row.now i.before.loop-done.row _ (next + 1) i.before.loop-done.invariant.1 (omega arith) c.requires.by_index,
+      pushing_most _ a.row.now c.loop-done.row _ (next + 1) c.loop-done.invariant.1 (omega arith) c.requires.by_index,
     )
 
 pub overflow_sub-row : goal.overflow_sub-row
 overflow_sub-row c =
     let next : ℕ = length c.args.hazards.now - 1 - c.loop-done.done in
-    let gone : c.half-moved.result ≤ get_or c.loop-done.row next 0 = let i = c in
-    le_trans (le_of_eq c.half-moved.ensures) (half_part _ _ (c.requires.by_index_2 _)) in
+    let gone : c.half-moved.result ≤ get_or c.loop-done.row next 0 = le_trans (le_of_eq c.half-moved.ensures) (half_part _ _ (c.requires.by_index_2 _)) in
     omega (arith, gone)
 
 pub bounds-row-k-in-loop-done-3 : goal.bounds-row-k-in-loop-done-3
@@ -51,13 +48,11 @@ bounds-row-k-in-loop-done-3 c = simp length-set (omega arith)
 pub loop-done-preserved : goal.loop-done-preserved
 loop-done-preserved c =
     let next : ℕ = length c.args.hazards.now - 1 - c.loop-done.done in
-    let right : let i = c in c.half-moved.result ≡ moves c.args.hazards.now c.args.row.now next = let i = c in
-    let a = c.args in
+    let right : c.half-moved.result ≡ moves c.args.hazards.now c.args.row.now next = let a = c.args in
     c.half-moved.ensures
-    ∙ ap (λ x. half (x * get_or a.hazards.now next 0)) (i.before.loop-done.invariant.1.below next (omega arith))
+    ∙ ap (λ x. half (x * get_or a.hazards.now next 0)) (c.loop-done.invariant.1.below next (omega arith))
     ∙ sym (moves_is a.hazards.now a.row.now next) in
-    let i = c in
-    let v = i.before.loop-done in
+    let v = c.loop-done in
     let n = length c.args.hazards.now in (
       omega arith,
       pushing_at _ _ _ next _

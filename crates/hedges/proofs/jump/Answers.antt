@@ -17,10 +17,9 @@ brought : (c : goal.After-change-2) →
     (change_of a.here.loss a.next.loss +ℤ change_of a.here.default a.next.default) 2_000_000_000
 unfolding B
 brought c =
-    let s = c.before in
     add
-    (read (changed _ _ B s.requires.1.loss s.requires.2.loss c.change.ensures) (lit< tt))
-    (read (changed _ _ B s.requires.1.default s.requires.2.default c.change-2.ensures) (lit< tt))
+    (read (changed _ _ B c.requires.1.loss c.requires.2.loss c.change.ensures) (lit< tt))
+    (read (changed _ _ B c.requires.1.default c.requires.2.default c.change-2.ensures) (lit< tt))
 
 -- what it takes: coupon × the change of the premium leg
 taken : (c : goal.After-change-3) →
@@ -29,8 +28,7 @@ taken : (c : goal.After-change-3) →
     (pos a.coupon *ℤ change_of a.here.premium a.next.premium) 180_000_000_000_000_000
 unfolding B
 taken c =
-    let s = c.before in
-    mul (nat s.args.coupon s.requires.0 (lit< tt)) (read (changed _ _ (18 * B) s.requires.1.premium s.requires.2.premium c.change-3.ensures) (lit< tt))
+    mul (nat c.args.coupon c.requires.0 (lit< tt)) (read (changed _ _ (18 * B) c.requires.1.premium c.requires.2.premium c.change-3.ensures) (lit< tt))
 
 pub overflow_add-result : goal.overflow_add-result
 overflow_add-result c = fits (brought c) (lit< tt)

@@ -7,9 +7,5 @@ use Rattle.images.proofs.store_image.Goals as goal
 pub returns : goal.returns
 unfolding image_of
 returns c =
-    let third = c.before in
-    let second = third.before in
-    let first = second.before in
-    let start = first.before.before in
-    filled start.args.image.now _ _ _ _ start.requires.0
-    ∙ same_four first.digit_pair.ensures second.digit_pair-2.ensures third.digit_pair-3.ensures c.digit_pair-4.ensures
+    filled c.args.image.now _ _ _ _ c.requires.0
+    ∙ same_four c.digit_pair.ensures c.digit_pair-2.ensures c.digit_pair-3.ensures c.digit_pair-4.ensures

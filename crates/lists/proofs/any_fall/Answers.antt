@@ -9,13 +9,11 @@ loop-i-init c = (search rules, passed_none _)
 
 pub returns-then-list-i : goal.returns-then-list-i
 returns-then-list-i c =
-    let i = c.before in
-    fall_found i.before.before.args.list.now _ i.before.loop-i.invariant.0 i.loop-i-test.true c.if-list-i.true
+    fall_found c.args.list.now _ c.loop-i.invariant.0 c.loop-i-test.true c.if-list-i.true
 
 pub loop-i-preserved : goal.loop-i-preserved
 loop-i-preserved c =
-    let i = c.before in
-    (omega arith, risen_more i.before.args.list.now _ i.loop-i.invariant.0 i.loop-i.invariant.1 c.if-list-i.false)
+    (omega arith, risen_more c.args.list.now _ c.loop-i.invariant.0 c.loop-i.invariant.1 c.if-list-i.false)
 
 pub returns : goal.returns
 returns c = fall_missed c.args.list.now _ c.loop-i-test.false c.loop-i.invariant.1

@@ -19,8 +19,7 @@ four_outside-requires c = omega (arith, c.loop-i-test.true)
 pub returns-then-four_outside : goal.returns-then-four_outside
 returns-then-four_outside c =
     let test : ℕ → Bool = λ k. let a = c.args in outside a.least a.most (get_or a.list.now k 0) in
-    let i = c in
-    found_four test _ i.before.loop-i.i (omega (arith, i.loop-i-test.true)) (sym c.four_outside.ensures ∙ c.if-four_outside.true)
+    found_four test _ c.loop-i.i (omega (arith, c.loop-i-test.true)) (sym c.four_outside.ensures ∙ c.if-four_outside.true)
 
 pub four_outside-requires-in-loop-i : goal.four_outside-requires-in-loop-i
 four_outside-requires-in-loop-i c = omega (arith, c.loop-i-test.true)
@@ -28,17 +27,15 @@ four_outside-requires-in-loop-i c = omega (arith, c.loop-i-test.true)
 pub returns-then-four_outside-2 : goal.returns-then-four_outside-2
 returns-then-four_outside-2 c =
     let test : ℕ → Bool = λ k. let a = c.args in outside a.least a.most (get_or a.list.now k 0) in
-    let i = c in
-    found_four test _ (i.before.loop-i.i + 4) (omega (arith, i.loop-i-test.true)) (sym c.four_outside-in-loop-i.ensures ∙ c.if-four_outside-2.true)
+    found_four test _ (c.loop-i.i + 4) (omega (arith, c.loop-i-test.true)) (sym c.four_outside-in-loop-i.ensures ∙ c.if-four_outside-2.true)
 
 pub loop-i-preserved : goal.loop-i-preserved
 loop-i-preserved c =
     let test : ℕ → Bool = λ k. let a = c.args in outside a.least a.most (get_or a.list.now k 0) in
-    let i = c in
-    let k = i.before.loop-i.i in
+    let k = c.loop-i.i in
     let e : k + 4 + 4 ≡ k + 8 = omega arith in (
-      omega (arith, i.loop-i-test.true),
-      rw e at (passed_four test (k + 4) (passed_four test k i.before.loop-i.invariant.1 (sym c.four_outside.ensures ∙ c.if-four_outside.false)) (sym c.four_outside-in-loop-i.ensures ∙ c.if-four_outside-2.false)),
+      omega (arith, c.loop-i-test.true),
+      rw e at (passed_four test (k + 4) (passed_four test k c.loop-i.invariant.1 (sym c.four_outside.ensures ∙ c.if-four_outside.false)) (sym c.four_outside-in-loop-i.ensures ∙ c.if-four_outside-2.false)),
     )
 
 pub rest_outside-requires : goal.rest_outside-requires

@@ -21,9 +21,8 @@ returns-then-count-eq0 c =
 
 pub overflow_mul-result : goal.overflow_mul-result
 overflow_mul-result c =
-    let s = c.before in
-    let few : c.periods_begun-count.result - 1 ≤ 16 = omega (arith, c.periods_begun-count.ensures, begun_most s.args.starts.now s.args.step, s.requires.1) in
-    omega (arith, mul-le-mul few s.requires.0)
+    let few : c.periods_begun-count.result - 1 ≤ 16 = omega (arith, c.periods_begun-count.ensures, begun_most c.args.starts.now c.args.step, c.requires.1) in
+    omega (arith, mul-le-mul few c.requires.0)
 
 pub returns : goal.returns
 returns c =

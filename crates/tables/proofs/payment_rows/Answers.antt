@@ -31,8 +31,7 @@ slice_bounds-payment_row-end c =
 
 pub payment_row-requires : goal.payment_row-requires
 payment_row-requires c = let long : ℕ = c.loop-j.a + c.args.pool.names + 1 - c.loop-j.a in
-    let i = c in
-    record { tranches_within = c.requires.tranches_within; tranche_le_tranches = (omega arith, part_long i.loop-j.invariant c.requires.table_len (omega arith) long (omega arith)) }
+    record { tranches_within = c.requires.tranches_within; tranche_le_tranches = (omega arith, part_long c.loop-j.invariant c.requires.table_len (omega arith) long (omega arith)) }
 
 pub overflow_add-j : goal.overflow_add-j
 overflow_add-j c = omega (arith, c.requires.tranches_within.0.pool.tranches)
@@ -40,8 +39,7 @@ overflow_add-j c = omega (arith, c.requires.tranches_within.0.pool.tranches)
 pub loop-j-preserved : goal.loop-j-preserved
 loop-j-preserved c =
     let long : ℕ = c.loop-j.a + c.args.pool.names + 1 - c.loop-j.a in
-    let i = c in
-    passed_tab i.loop-j.invariant c.requires.table_len (omega arith) long (i.loop-j.a + c.args.pool.names + 1) _ (omega arith) (omega arith) c.payment_row.ensures
+    passed_tab c.loop-j.invariant c.requires.table_len (omega arith) long (c.loop-j.a + c.args.pool.names + 1) _ (omega arith) (omega arith) c.payment_row.ensures
 
 pub shape_of-table : goal.shape_of-table
 shape_of-table c = c.loop-j.invariant.swept.same

@@ -13,5 +13,4 @@ slice_bounds-payments_by-end c =
 
 pub payments_by-requires : goal.payments_by-requires
 payments_by-requires c = let counts : c.args.pool.names + 1 ≤ 126 = omega (arith, c.requires.tranches_within.pool.names) in
-    let s = c in
-    record { tranches_within = (s.requires.tranches_within, sym (front _ _ 126 refl counts) ∙ add-one s.args.pool.names); table_len = s.requires.table_len }
+    record { tranches_within = (c.requires.tranches_within, sym (front _ _ 126 refl counts) ∙ add-one c.args.pool.names); table_len = c.requires.table_len }

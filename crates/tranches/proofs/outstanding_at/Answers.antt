@@ -1,5 +1,5 @@
 -- `tranches::outstanding_at` meets its contract.
-use Prim.Native.Nat.{◌+◌, ◌≤◌}
+use Prim.Native.Nat.{◌+◌, ◌≤◌, ◌<◌}
 use mathlib.Core.Path.{sym, ◌∙◌, ap₂}
 use native.Mathlib.Omega.{arith}
 use Rattle.cash.specs.Units.{B}
@@ -30,13 +30,12 @@ tranche_outstanding-requires c =
     let within : c.pool_loss-loss.result + c.pool_recovery-recovered.result ≤ B = let a = c.args in
     let shares = pool_shares a.pool.names a.pool.recovery a.count c.requires.tranches_within.recovery c.requires.tranche_le_tranches.1 in
     omega (arith, c.pool_loss-loss.ensures, c.pool_recovery-recovered.ensures, shares) in
-    let i = c in
-    let s = c in
-    (rises_here _ _ s.requires.tranches_within i.if-pool-tranche.false, attachment_most _ s.requires.tranches_within _, omega (arith, within))
+    let inside : c.args.tranche < c.args.pool.tranches = omega arith in
+    (rises_here _ _ c.requires.tranches_within inside, attachment_most _ c.requires.tranches_within _, omega (arith, within))
 
 pub returns : goal.returns
 returns c =
-    let i = c in
     let a = c.args in
-    outstanding_is (bare a.pool a.attachments.now) a.tranche a.count _ _ _ i.if-pool-tranche.false
+    let inside : a.tranche < a.pool.tranches = omega arith in
+    outstanding_is (bare a.pool a.attachments.now) a.tranche a.count _ _ _ inside
     c.pool_loss-loss.ensures c.pool_recovery-recovered.ensures c.tranche_outstanding.ensures

@@ -30,8 +30,7 @@ roll_node-requires c =
     ∙ ap (λ (n : ℕ). get_or c.args.row.now n 0) (add-one c.loop-k.k) in
     let here-is : get_or c.loop-k.row c.loop-k.k 0 ≡ get_or c.args.row.now c.loop-k.k 0 = c.loop-k.invariant.1.ahead c.loop-k.k (le_refl _) in
     let next_most : get_or c.loop-k.row (c.loop-k.k + 1) 0 + get_or c.args.cash.now c.loop-k.k 0 ≤ 18 * B = rw next-is (c.requires.defaulted_most c.loop-k.k c.loop-k-test.true) in
-    let i = c in
-    let k = i.before.loop-k.k in
+    let k = c.loop-k.k in
     (c.requires.hazard_most k, c.requires.discount_most, next_most, rw here-is (c.requires.survived_most k (omega arith)))
 
 pub loop-k-preserved : goal.loop-k-preserved
@@ -40,30 +39,27 @@ loop-k-preserved c =
     let next-is : get_or c.loop-k.row (c.loop-k.k + 1) 0 ≡ get_or c.args.row.now (suc c.loop-k.k) 0 = c.loop-k.invariant.1.ahead (c.loop-k.k + 1) (omega arith)
     ∙ ap (λ (n : ℕ). get_or c.args.row.now n 0) (add-one c.loop-k.k) in
     let here-is : get_or c.loop-k.row c.loop-k.k 0 ≡ get_or c.args.row.now c.loop-k.k 0 = c.loop-k.invariant.1.ahead c.loop-k.k (le_refl _) in
-    let i = c in
     let a = c.args in
-    let k = i.before.loop-k.k in (
+    let k = c.loop-k.k in (
       omega arith,
-      swept_more _ _ _ _ _ i.before.loop-k.invariant.1 (omega (arith, i.before.loop-k.invariant.1.same, c.requires.row_long))
+      swept_more _ _ _ _ _ c.loop-k.invariant.1 (omega (arith, c.loop-k.invariant.1.same, c.requires.row_long))
           (c.roll_node.ensures ∙ (λ t. roll_node (get_or a.hazards.now k 0) a.discount (next-is t + get_or a.cash.now k 0) (here-is t))),
     )
 
 pub roll_node-requires-2 : goal.roll_node-requires-2
 roll_node-requires-2 c =
     let last-is : get_or c.loop-k.row (length c.args.hazards.now) 0 ≡ get_or c.args.row.now (length c.args.hazards.now) 0 = c.loop-k.invariant.1.ahead _ (omega arith) in
-    let i = c in
     (omega arith, c.requires.discount_most, omega arith, rw last-is (c.requires.survived_most _ (le_refl _)))
 
 pub returns : goal.returns
 unfolding rolled_at
 returns c =
     let last-is : get_or c.loop-k.row (length c.args.hazards.now) 0 ≡ get_or c.args.row.now (length c.args.hazards.now) 0 = c.loop-k.invariant.1.ahead _ (omega arith) in
-    let i = c in
     let a = c.args in
     let n = length a.hazards.now in
-    let e : i.before.loop-k.k ≡ n = omega arith in
+    let e : c.loop-k.k ≡ n = omega arith in
     let z : get_or a.hazards.now n 0 ≡ 0 = get_or-eq_default a.hazards.now 0 (le_refl n) in
-    let s : Swept (rolled_at a.hazards.now a.discount a.cash.now a.row.now) a.row.now i.before.loop-k.row n = rw e at i.before.loop-k.invariant.1 in
+    let s : Swept (rolled_at a.hazards.now a.discount a.cash.now a.row.now) a.row.now c.loop-k.row n = rw e at c.loop-k.invariant.1 in
     swept_all _ _ _ (n + 1)
     (swept_more _ _ _ _ _ s (omega (arith, s.same, c.requires.row_long))
     (c.roll_node-2.ensures ∙ node_last a.discount 0 (get_or a.row.now (suc n) 0 + get_or a.cash.now n 0) _

@@ -42,19 +42,16 @@ slice_bounds-roll-end-in-loop-j c =
 pub roll-requires : goal.roll-requires
 roll-requires c =
     let long : ℕ = c.loop-j.a + c.args.names + 1 - c.loop-j.a in
-    let i = c in
-    tranche_fits c.requires i.before.loop-j.invariant (omega arith) long (omega arith)
+    tranche_fits c.requires c.loop-j.invariant (omega arith) long (omega arith)
 
 pub loop-j-preserved : goal.loop-j-preserved
 loop-j-preserved c =
     let long : ℕ = c.loop-j.a + c.args.names + 1 - c.loop-j.a in
-    let i = c in
-    tranche_back c.requires i.before.loop-j.invariant (omega arith) long (omega arith) (i.before.loop-j.a + c.args.names + 1) _ (omega arith) c.roll.ensures
+    tranche_back c.requires c.loop-j.invariant (omega arith) long (omega arith) (c.loop-j.a + c.args.names + 1) _ (omega arith) c.roll.ensures
 
 pub shape_of-rows : goal.shape_of-rows
 shape_of-rows c = c.loop-j.invariant.swept.same
 
 pub returns : goal.returns
 returns c =
-    let s = c in
-    passed_all c.loop-j.invariant s.requires.rows_long (omega (arith, c.loop-j.invariant.most))
+    passed_all c.loop-j.invariant c.requires.rows_long (omega (arith, c.loop-j.invariant.most))
