@@ -368,7 +368,7 @@ fn rooms_are_the_engines(page: &str) -> Found {
     let entries = (MAX_TRANCHES + 1) * (MAX_NAMES + 1);
     same(&sizes[..2], &[numbers as i128, entries as i128], "rooms")?;
     let source = fs::read_to_string(root().join("crates/deck/src/lib.rt")).unwrap();
-    let room = format!("return {} * bytes + {};", sizes[2], sizes[3]);
+    let room = format!("{} * bytes.min(MOST) + {}", sizes[2], sizes[3]);
     ensure(source.contains(&room), || {
         format!("the engine has no {room}")
     })

@@ -17,33 +17,25 @@ use std::path::{Path, PathBuf};
 /// The one function that stores into a register.
 const STORE: &str = "issuing/src/lib.rt: store";
 
-/// The two that call it, and how: `store` stands in the arm of `Accepted`.
+/// The two that call it, and how: `store` stands behind the `?` that hands a
+/// refusal back.
 const CALLS: [(&str, &str); 2] = [
     (
         "issuing/src/lib.rt: issue",
-        "let answer = judge_issue(register, number);
-         match answer {
-             WriteAnswer::Accepted => store(register, number, LIVE),
-             _ => {}
-         }
-         answer",
+        "judge(register, number, Status::Unissued)?;
+         store(register, number, LIVE);
+         Ok(())",
     ),
     (
         "issuing/src/lib.rt: withdraw",
-        "let answer = judge_withdraw(register, number);
-         match answer {
-             WriteAnswer::Accepted => store(register, number, CLEARED),
-             _ => {}
-         }
-         answer",
+        "judge(register, number, Status::Live)?;
+         store(register, number, CLEARED);
+         Ok(())",
     ),
 ];
 
-/// The two that judge. They may only read.
-const JUDGES: [&str; 2] = [
-    "issuing/src/lib.rt: judge_issue",
-    "issuing/src/lib.rt: judge_withdraw",
-];
+/// The one that judges. It may only read.
+const JUDGE: &str = "issuing/src/lib.rt: judge";
 
 /// The others that may write a register, and the calls that they hand it to.
 const HANDS_ON: [(&str, &[&str]); 10] = [
@@ -169,12 +161,15 @@ fn behind(words: &[String], open: usize) -> usize {
 fn parameters(words: &[String]) -> Vec<(String, String)> {
     let mut parts = vec![String::new()];
     let mut depth = 0;
+    let mut before = "";
     for word in words {
         match word.as_str() {
-            "(" | "[" | "{" => depth += 1,
+            "(" | "[" | "{" | "<" => depth += 1,
             ")" | "]" | "}" => depth -= 1,
+            ">" if before != "-" => depth -= 1,
             _ => {}
         }
+        before = word;
         if word == "," && depth == 0 {
             parts.push(String::new());
         } else {
@@ -365,7 +360,7 @@ fn the_period_of_a_step_is_found_once() {
     let mut finders = Vec::new();
     for function in functions() {
         let places = |name: &str| function.body.iter().filter(|&it| it == name).count();
-        let loops = places("while");
+        let loops = places("while") + places("for");
         for _ in 0..places("hazards_from") {
             assert_eq!(loops, 1, "{} has another loop", function.place);
             finders.push(function.place.clone());
@@ -379,23 +374,25 @@ fn the_period_of_a_step_is_found_once() {
 const IMAGE_WRITERS: [(&str, &str); 3] = [
     (
         "export/src/lib.rt: lavroudem_write_packed",
-        "packed::writing_number(packed::write(image, coupon))",
+        "match packed::write(image, coupon) {
+             Ok(()) => 0,
+             Err(refusal) => refusal.into(),
+         }",
     ),
     (
         "images/src/lib.rt: store_image",
-        "image[0] = digit_pair(coupon / 1_000_000);
-         image[1] = digit_pair(coupon / 10_000 % 100);
-         image[2] = digit_pair(coupon / 100 % 100);
-         image[3] = digit_pair(coupon % 100);",
+        "image.copy_from_slice(&[
+             digit_pair(coupon / 1_000_000),
+             digit_pair(coupon / 10_000 % 100),
+             digit_pair(coupon / 100 % 100),
+             digit_pair(coupon % 100),
+         ]);",
     ),
     (
         "packed/src/lib.rt: write",
-        "let answer = judge_write(image, coupon);
-         match answer {
-             Writing::Written => store_image(image, coupon),
-             _ => {}
-         }
-         answer",
+        "judge_write(image, coupon)?;
+         store_image(image, coupon);
+         Ok(())",
     ),
 ];
 
@@ -432,19 +429,21 @@ const LINE_CALLS: [(&str, &str); 2] = [
     (
         "book/src/lib.rt: total",
         "if out.len() != SIZE {
-             return Report::Length;
+             return Err(BookRefusal::Length);
          }
-         if totals::is_taken(nominals, values) {
-             return Report::Written(store_line(out, totals::add_up(nominals, values)));
+         if !totals::is_taken(nominals, values) {
+             return Err(BookRefusal::Book);
          }
-         Report::Book",
+         Ok(store_line(out, totals::add_up(nominals, values)))",
     ),
     (
         "export/src/lib.rt: lavroudem_book",
-        "let report = book::total(nominals, values, out);
-         Booked {
-             number: book::report_number(report),
-             length: book::bytes_in(report),
+        "match book::total(nominals, values, out) {
+             Ok(length) => Booked { number: 0, length },
+             Err(refusal) => Booked {
+                 number: refusal.into(),
+                 length: 0,
+             },
          }",
     ),
 ];
@@ -493,57 +492,50 @@ fn a_refused_book_stores_nothing() {
 const TURN_WRITERS: [(&str, &str); 7] = [
     (
         "places/src/lib.rt: fill",
-        "let n = left.len();
+        "let room = list.len();
          let mut last = place;
-         let mut i = 0;
-         while i < list.len() {
-             let p = choose(&*left, last);
-             if n <= p {
-                 return Turned::Served(i, last);
-             }
-             left[p] = left[p] - 1;
-             list[i] = p as u8;
+         for (count, slot) in list.iter_mut().enumerate() {
+             let Some(p) = choose(left, last) else {
+                 return Served { count, last };
+             };
+             left[p] -= 1;
+             *slot = p as u8;
              last = p;
-             i += 1;
          }
-         Turned::Served(i, last)",
+         Served { count: room, last }",
     ),
     (
         "places/src/lib.rt: serve",
-        "if is_taken(&*left, place, list.len()) {
-             return fill(left, place, list);
+        "if !is_taken(left, place, list.len()) {
+             return Err(NotTaken);
          }
-         Turned::Turns",
+         Ok(fill(left, place, list))",
     ),
     (
         "places/src/lib.rt: serve_first",
         "if WALKS < n {
-             return Turned::Turns;
+             return Err(NotTaken);
          }
          serve(&mut left[..n], place, list)",
     ),
     (
         "turns/src/lib.rt: copy_out",
-        "let mut i = 0;
-         while i < count {
+        "for i in 0..count {
              left[i] = table[i].left;
-             i += 1;
          }",
     ),
     (
         "turns/src/lib.rt: copy_in",
-        "let mut at = 0;
-         while at < count {
+        "for at in 0..count {
              table[at].left = left[at];
-             at += 1;
          }",
     ),
     (
         "turns/src/lib.rt: serve_with",
         "let n = table.len();
          let shown = places::shown(n);
-         copy_out(&mut *table, &mut *left, shown);
-         let answer = places::serve_first(&mut *left, n, place, list);
+         copy_out(table, left, shown);
+         let answer = places::serve_first(left, n, place, list);
          let stored = places::stored(answer, shown);
          copy_in(table, left, stored);
          answer",
@@ -559,8 +551,8 @@ const TURN_WRITERS: [(&str, &str); 7] = [
 const TURNS_STORED: (&str, &str) = (
     "places/src/lib.rt: stored",
     "match answer {
-         Turned::Served(_, _) => n,
-         Turned::Turns => 0,
+         Ok(_) => n,
+         Err(_) => 0,
      }",
 );
 
@@ -717,10 +709,8 @@ fn only_an_accepted_call_stores() {
         .map(|function| function.place.as_str())
         .collect();
     assert_eq!(callers, CALLS.map(|(place, _)| place));
-    for place in JUDGES {
-        let kind = function(&functions, place).kind_of("register");
-        assert_eq!(kind, Some("& [ u8 ]"), "{place}");
-    }
+    let judge = function(&functions, JUDGE);
+    assert_eq!(judge.kind_of("register"), Some("& [ u8 ]"));
 }
 
 #[test]

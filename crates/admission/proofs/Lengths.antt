@@ -1,11 +1,6 @@
 -- What the lengths of lent rows tell, as the code asks them.
-use mathlib.Core.Path.{◌≡◌, ◌∙◌, ap}
-use mathlib.Core.Bool.{Bool, true, false, not}
-use mathlib.Core.Logic.{◌↔◌}
-use mathlib.Core.List.{List, []}
-use Prim.Native.Nat.{ℕ, ◌+◌, ◌≤◌}
-use borrow.Author.Tests.{eq-eqb, not-false}
-use lib.ListN.{length}
+use Rattle.std.proofs.Common.{◌≡◌, ◌∙◌, ap, Bool, true, false, not, ◌↔◌, List, [], ℕ, ◌+◌, ◌≤◌, eq-eqb, length}
+use borrow.Author.Tests.{not-false}
 use Rattle.sheet.specs.declared.Pool.{Pool}
 use Rattle.sheet.specs.Terms.{terms_of}
 use Rattle.sheet.specs.Brought.{Brought, brought}

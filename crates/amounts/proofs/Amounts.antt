@@ -1,38 +1,13 @@
 -- Laws of amounts and figures.
-use Prim.Native.Nat.{ℕ, zero, suc, ◌+◌, ◌<◌, ◌≤◌}
-use mathlib.Core.Path.{◌≡◌, refl, sym, ap, ◌∙◌}
-use mathlib.Core.Bool.{Bool, true, false, true≢false}
-use mathlib.Core.List.{◌∷◌, ◌++◌}
-use mathlib.Core.Logic.{◌≢◌, ⊎_elim}
-use native.Mathlib.Omega.{arith}
-use borrow.Author.Tests.{lt-ltb, le-ltb}
-use lib.Dec.{ltb}
-use lib.IntN.{ℤ, pos, neg_ℤ, ◌+ℤ◌, pos-+ℤ-pos, neg_ℤ-+ℤ, +ℤ_comm, +ℤ-neg_ℤ_cancel, neg_ℤ-neg_ℤ}
+use Rattle.std.proofs.Common.{ℕ, zero, suc, ◌+◌, ◌<◌, ◌≤◌, ◌≡◌, refl, sym, ap, ◌∙◌, Bool, true, false, true≢false, ◌∷◌, ◌++◌, arith, ℤ, pos, neg_ℤ}
+use Rattle.std.proofs.Common.{◌+ℤ◌}
+use lib.IntN.{pos-+ℤ-pos, neg_ℤ-+ℤ, +ℤ_comm, +ℤ-neg_ℤ_cancel, neg_ℤ-neg_ℤ}
 use Rattle.hedges.specs.Hedges.{with_sign}
 use Rattle.lines.specs.Text.{decimal, signed}
-use Rattle.lines.proofs.Laws.{lt_or_ge}
 use Rattle.amounts.specs.declared.Amount.{Amount}
 use Rattle.amounts.specs.declared.Figure.{Figure}
 use Rattle.amounts.specs.Amounts.{size_of, Carried, figure_of, Proper, Shows, padded}
 use Rattle.amounts.proofs.Digits.{joined}
-
--- ---- which one is less
-
-module _ (a b : Amount) where
-  pub less_units : a.billions ≡ b.billions → ltb a.units b.units ≡ ltb (size_of a) (size_of b)
-  less_units e =
-      ⊎_elim (λ (h : a.units < b.units). lt-ltb a.units b.units h ∙ sym (lt-ltb (size_of a) (size_of b) (omega (arith, e, h))))
-      (λ (h : b.units ≤ a.units). le-ltb a.units b.units h ∙ sym (le-ltb (size_of a) (size_of b) (omega (arith, e, h))))
-      (lt_or_ge a.units b.units)
-
-  pub less_billions : a.billions ≢ b.billions → Carried a → Carried b → ltb a.billions b.billions ≡ ltb (size_of a) (size_of b)
-  less_billions d ca cb =
-      ⊎_elim
-      (λ (h : a.billions < b.billions).
-      lt-ltb a.billions b.billions h ∙ sym (lt-ltb (size_of a) (size_of b) (omega (arith, ca, cb, h))))
-      (λ (h : b.billions ≤ a.billions).
-      le-ltb a.billions b.billions h ∙ sym (le-ltb (size_of a) (size_of b) (omega (arith, ca, cb, h, d))))
-      (lt_or_ge a.billions b.billions)
 
 -- ---- one less the other
 

@@ -1,10 +1,6 @@
 -- The digits of a number in two parts, and how they are written.
-use Prim.Native.Nat.{ℕ, zero, suc, ◌+◌, ◌*◌, ◌-◌, ◌/◌, ◌%◌, ◌^◌, ◌<◌, ◌≤◌}
-use mathlib.Core.Path.{◌≡◌, refl, sym, ap, ◌∙◌, subst}
-use mathlib.Core.List.{List, [], ◌∷◌, ◌++◌, append_assoc, append-nil}
-use native.Mathlib.Nat.{mul_assoc, mul-le-mul, mul_comm, mul-one, pow-suc}
-use native.Mathlib.Omega.{arith}
-use lib.ListN.{length, length-append, set}
+use Rattle.std.proofs.Common.{ℕ, zero, suc, ◌+◌, ◌*◌, ◌-◌, ◌/◌, ◌%◌, ◌^◌, ◌<◌, ◌≤◌, ◌≡◌, refl, sym, ap, ◌∙◌, subst, List, [], ◌∷◌, ◌++◌, append_assoc}
+use Rattle.std.proofs.Common.{append-nil, mul_assoc, mul-le-mul, mul_comm, mul-one, pow-suc, arith, length, length-append, set}
 use lib.Seq.{sets}
 use Rattle.lines.specs.Text.{decimal, Wrote}
 use Rattle.lines.proofs.Laws.{decimal_large, wrote_both, wrote_byte}

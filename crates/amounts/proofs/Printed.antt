@@ -1,12 +1,6 @@
 -- `signed` is a whole number in print, and no other text is.
-use Prim.Native.Nat.{ℕ, zero, suc, ◌+◌, ◌*◌, ◌-◌, ◌/◌, ◌%◌, ◌≤◌, ◌<◌}
-use mathlib.Core.Path.{◌≡◌, refl, sym, ap, ◌∙◌, subst}
-use mathlib.Core.Logic.{⊎_elim}
-use mathlib.Core.List.{List, [], ◌∷◌, ◌++◌}
-use native.Mathlib.Omega.{arith}
-use lib.IntN.{ℤ, pos, negsuc}
-use lib.ListN.{length, length-append, get_or, take, drop}
-use lib.Seq.{take_all, take-suc, length-take-le, get_or-take}
+use Rattle.std.proofs.Common.{ℕ, zero, suc, ◌+◌, ◌*◌, ◌-◌, ◌/◌, ◌%◌, ◌≤◌, ◌<◌, ◌≡◌, refl, sym, ap, ◌∙◌, subst, ⊎_elim, List, [], ◌∷◌, ◌++◌, arith, ℤ}
+use Rattle.std.proofs.Common.{pos, negsuc, length, length-append, get_or, take, drop, take_all, take-suc, length-take-le, get_or-take}
 use Rattle.lines.specs.Text.{decimal, signed}
 use Rattle.lines.proofs.Laws.{lt_or_ge, decimal_small, decimal_large}
 use Rattle.amounts.specs.Printed.{read_on, IsDecimal, IsPrinted}

@@ -2,21 +2,22 @@
 
 #![tactic(auto)]
 
-ghost use Rattle.std.specs.Prelude.{◌≡◌, ◌+◌, ◌≤◌, true, false, ltb, ◌+ℤ◌, length};
+ghost use Rattle.std.specs.Prelude.{◌≡◌, ◌+◌, ◌≤◌, true, false, ◌+ℤ◌, length};
 ghost use Rattle.lines.specs.Text.{Wrote, decimal, signed, field};
 ghost use Rattle.hedges.specs.Hedges.{with_sign};
 ghost use Rattle.amounts.specs.Amounts.{size_of, Carried, figure_of, Proper, Shows, padded};
 
 pub const BILLION: u64 = 1_000_000_000;
 
-// A number without a sign.
-#[derive(Clone, Copy)]
+// A number without a sign, of more than 64 bits: the order of its fields is that of numbers.
+#[derive(Clone, Copy, PartialEq, Eq, PartialOrd, Ord)]
 pub struct Amount {
     pub billions: u64,
     pub units: u64,
 }
 
-// A number, and whether it is below 0.
+// A number, and whether it is below 0: i64 has no room for it, and in i128 there would be no carry and no borrow for must-fail/ to break
+// (carried_at_a_hundred_million, borrowed_twice), nor the nine digits (eight_digits, one_billion_lost).
 #[derive(Clone, Copy)]
 pub struct Figure {
     pub below: bool,
@@ -32,16 +33,6 @@ pub fn carried(a: Amount) -> Amount
         billions: a.billions + a.units / BILLION,
         units: a.units % BILLION,
     }
-}
-
-fn less(a: Amount, b: Amount) -> bool
-    requires { Carried a × Carried b }
-    ensures { result ≡ ltb (size_of a) (size_of b) }
-{
-    if a.billions == b.billions {
-        return a.units < b.units;
-    }
-    a.billions < b.billions
 }
 
 // What is left of a when b is taken off.
@@ -66,7 +57,7 @@ pub fn net(a: Amount, b: Amount) -> Figure
     requires { Carried a × Carried b }
     ensures { Shows (with_sign false (size_of a) +ℤ with_sign true (size_of b)) result }
 {
-    if less(a, b) {
+    if a < b {
         return Figure {
             below: true,
             size: difference(b, a),
@@ -78,7 +69,7 @@ pub fn net(a: Amount, b: Amount) -> Figure
     }
 }
 
-// Writes the last digits of n, so many, be they zeros.
+// Writes the last digits of n, so many, be they zeros: by a call for those before the last, which says where it stands.
 fn put_padded(out: &mut [u8], at: usize, digits: usize, n: u64) -> usize
     requires { at + digits ≤ length out.old }
     ensures { Wrote out.old at (padded digits n) out.new result }

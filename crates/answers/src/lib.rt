@@ -3,8 +3,12 @@
 #![tactic(auto)]
 
 ghost use Rattle.std.specs.Prelude.{◌≡◌};
+ghost use Rattle.figures.specs.Answer.{done_answer, position_answer, worth_answer, ratio_answer};
 ghost use Rattle.walk.specs.Answers.{said_of, said_by};
 ghost use Rattle.answers.specs.OrderAnswers.{answer_said};
+
+use refusals::Refusal;
+use walk::Worth;
 
 #[derive(Clone, Copy)]
 pub enum OrderAnswer {
@@ -22,25 +26,60 @@ pub enum OrderAnswer {
     Probability(u64),
 }
 
-// What a call of the walk answers.
-pub fn of_walk(answer: walk::Answer) -> OrderAnswer
-    ensures { answer_said result ≡ said_of answer }
-{
-    match answer {
-        walk::Answer::Refused(refusal) => OrderAnswer::Refused(refusals::refusal_number(refusal)),
-        walk::Answer::Done => OrderAnswer::Done,
-        walk::Answer::Position(position) => OrderAnswer::Position(position),
-        walk::Answer::Worth(d, a, w) => OrderAnswer::Worth(d, a, w),
-        walk::Answer::Ratio(ratio) => OrderAnswer::Ratio(ratio),
+// What open answers.
+impl From<Result<(), Refusal>> for OrderAnswer {
+    ghost from_gives = { λ said answer. answer_said answer ≡ said_of (done_answer said) };
+
+    fn from(said: Result<(), Refusal>) -> OrderAnswer {
+        match said {
+            Ok(()) => OrderAnswer::Done,
+            Err(refusal) => OrderAnswer::Refused(refusal.into()),
+        }
+    }
+}
+
+// What back answers.
+impl From<Result<usize, Refusal>> for OrderAnswer {
+    ghost from_gives = { λ said answer. answer_said answer ≡ said_of (position_answer said) };
+
+    fn from(said: Result<usize, Refusal>) -> OrderAnswer {
+        match said {
+            Ok(position) => OrderAnswer::Position(position),
+            Err(refusal) => OrderAnswer::Refused(refusal.into()),
+        }
+    }
+}
+
+// What value answers.
+impl From<Result<Worth, Refusal>> for OrderAnswer {
+    ghost from_gives = { λ said answer. answer_said answer ≡ said_of (worth_answer said) };
+
+    fn from(said: Result<Worth, Refusal>) -> OrderAnswer {
+        match said {
+            Ok(worth) => OrderAnswer::Worth(worth.default, worth.premium, worth.net),
+            Err(refusal) => OrderAnswer::Refused(refusal.into()),
+        }
+    }
+}
+
+// What hedge ratio answers.
+impl From<Result<i64, Refusal>> for OrderAnswer {
+    ghost from_gives = { λ said answer. answer_said answer ≡ said_of (ratio_answer said) };
+
+    fn from(said: Result<i64, Refusal>) -> OrderAnswer {
+        match said {
+            Ok(ratio) => OrderAnswer::Ratio(ratio),
+            Err(refusal) => OrderAnswer::Refused(refusal.into()),
+        }
     }
 }
 
 // What issue and withdraw answer.
-pub fn of_register(answer: register::WriteAnswer) -> OrderAnswer
+pub fn of_register(answer: Result<(), register::WriteRefusal>) -> OrderAnswer
     ensures { answer_said result ≡ said_by answer }
 {
-    if let register::WriteAnswer::Accepted = answer {
-        return OrderAnswer::Done;
+    match answer {
+        Ok(()) => OrderAnswer::Done,
+        Err(refusal) => OrderAnswer::Refused(u8::from(refusal)),
     }
-    OrderAnswer::Refused(register::number_of(answer))
 }

@@ -1,17 +1,11 @@
 -- A walk back between two of its steps.
-use Prim.Native.Nat.{ℕ, suc, ◌+◌, ◌-◌, ◌*◌, ◌≤◌, ◌<◌}
-use mathlib.Core.Path.{◌≡◌, refl, ap, sym, ◌∙◌}
-use mathlib.Core.Bool.{cond, ◌||◌}
-use mathlib.Core.List.{List}
-use native.Mathlib.Omega.{arith}
-use native.Mathlib.Numerals.{add-one}
-use lib.ListN.{length, get_or}
+use Rattle.std.proofs.Common.{ℕ, suc, ◌+◌, ◌-◌, ◌*◌, ◌≤◌, ◌<◌, ◌≡◌, refl, ap, ◌∙◌, cond, ◌||◌, List, arith, add-one, length, get_or}
 use Rattle.cash.specs.Units.{B}
 use Rattle.cash.specs.Losses.{elapsed_payment}
 use Rattle.sheet.specs.Terms.{Terms, terms_of, bare}
 use Rattle.sheet.specs.Periods.{period_of, hazards_at, hazards_into}
 use Rattle.sheet.proofs.Periods.{hazards_there}
-use Rattle.sheet.proofs.Limits.{accrual_most, elapsed_most}
+use Rattle.sheet.proofs.Limits.{elapsed_most}
 use Rattle.tree.specs.Sheet.{outstanding_of, default_of, premium_of}
 use Rattle.rows.specs.Tables.{tab, entry, grid}
 use Rattle.rows.specs.Rows.{row_length, node_in, row_of, rolled, rolled_back}
@@ -78,15 +72,6 @@ module _ {x : Terms} {d p : List ℕ} {position count : ℕ} {starts hazards dis
   pub now_rollable : Rollable x ds ps (position - done) (count - done)
   now_rollable = rw (g.defaults, g.premiums) (rollable_back x d p position count done g.ready g.most)
 
-  pub defaults_kept : length ds ≡ length d
-  defaults_kept = now_rollable.defaults_long ∙ sym g.ready.defaults_long
-
-  pub premiums_kept : length ps ≡ length p
-  premiums_kept = now_rollable.premiums_long ∙ sym g.ready.premiums_long
-
-  pub earned_long : length earned ≡ row_length x
-  earned_long = ap length g.earned_is ∙ length_grid _ _ _
-
   -- the step that is next leads to i
   module _ (i : ℕ) (i_is : i ≡ position - (done + 1)) (more : done < count) where
     next_rollable : Rollable x ds ps (suc i) (count - done)
@@ -97,27 +82,9 @@ module _ {x : Terms} {d p : List ℕ} {position count : ℕ} {starts hazards dis
     inside : i < x.steps
     inside = next_rollable.position_most
 
-    pub discount_there : i < length discounts
-    discount_there = let e : length discounts ≡ length x.discounts = ap length g.discounts_is in omega (arith, inside, g.ready.limits.curves.discounts)
-
-    pub accrual_there : i < length accruals
-    accrual_there = let e : length accruals ≡ length x.accruals = ap length g.accruals_is in omega (arith, inside, g.ready.limits.curves.accruals)
-
-    pub accrual_low : get_or accruals i 0 ≤ B
-    accrual_low = rw g.accruals_is (accrual_most x g.ready.limits i)
-
-    pub elapsed_there : i < length elapsed
-    elapsed_there = let e : length elapsed ≡ length x.elapsed = ap length g.elapsed_is in omega (arith, inside, g.ready.limits.curves.elapsed)
-
     -- the table can be filled for the step's fraction
     pub earn_fits : (get_or elapsed i 0 ≤ B) × FallingRows (suc x.tranches) x.names left
     earn_fits = (rw g.elapsed_is (elapsed_most x g.ready.limits i), g.left_is.falling)
-
-    pub left_long : length left ≡ length ps
-    left_long = g.left_is.falling.long ∙ sym next_rollable.premiums_long
-
-    pub left_low : (n : ℕ) → n < length ps → get_or left n 0 ≤ B
-    left_low n h = g.left_is.low n (rw next_rollable.premiums_long at h)
 
     -- the premium added is that of what is outstanding
     accrued_is : (es : List ℕ) → es ≡ tab (length ps) (accrued_at (get_or accruals i 0) left ps)
@@ -200,9 +167,3 @@ module _ {x : Terms} {d p : List ℕ} {position count : ℕ} {starts hazards dis
                 (rw (into_there, g.discounts_is) at q)
                 ∙ (λ t. rolled x (premium_of x) (s t) (g.premiums t)));
           }
-
-  pub defaults_end : done ≡ count → ds ≡ rolled_back x (default_of x) position count d
-  defaults_end e = g.defaults ∙ ap (λ (n : ℕ). rolled_back x (default_of x) position n d) e
-
-  pub premiums_end : done ≡ count → ps ≡ rolled_back x (premium_of x) position count p
-  premiums_end e = g.premiums ∙ ap (λ (n : ℕ). rolled_back x (premium_of x) position n p) e

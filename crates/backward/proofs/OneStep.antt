@@ -1,11 +1,7 @@
 -- One step of a walk back: what it needs, what it gives, and that the rows stay within their bounds.
-use Prim.Native.Nat.{ℕ, zero, suc, ◌+◌, ◌-◌, ◌*◌, ◌≤◌, ◌<◌}
-use mathlib.Core.Path.{◌≡◌, ap, sym, ◌∙◌}
-use mathlib.Core.List.{List}
-use native.Mathlib.Omega.{arith}
-use native.Mathlib.Nat.{add-zero, sub-zero}
+use Rattle.std.proofs.Common.{ℕ, zero, suc, ◌+◌, ◌-◌, ◌*◌, ◌≤◌, ◌<◌, ◌≡◌, ap, sym, ◌∙◌, List, arith, add-zero, length, get_or, drop}
+use native.Mathlib.Nat.{sub-zero}
 use native.Mathlib.Decide.{dec_lt}
-use lib.ListN.{length, get_or, drop}
 use lib.Arith.{digits_lt}
 use Rattle.cash.specs.Units.{B}
 use Rattle.cash.specs.Losses.{default_payment, premium_payment, elapsed_payment}

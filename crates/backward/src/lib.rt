@@ -47,22 +47,19 @@ pub fn walk_with_tables(
     let elapsed = part(sheet.elapsed, numbers);
     payments(pool, attachments, paid);
     outstandings_due(pool, attachments, accruals, elapsed, position, count, left);
+    let names = pool.names;
+    let tranches = pool.tranches;
     let mut held = 0;
-    let mut done = 0;
-    while done < count {
-        done += 1;
-        let i = position - done;
+    for i in (position - count..position).rev() {
         let discount = discounts[i];
         let accrual = accruals[i];
         let fraction = elapsed[i];
-        let names = sheet.pool.names;
-        let tranches = sheet.pool.tranches;
-        let a = hazards_from(names, starts, i + 1);
-        let e = a + names;
-        roll_all(names, tranches, &hazards[a..e], discount, paid, defaults);
+        let from = hazards_from(names, starts, i + 1);
+        let into = &hazards[from..from + names];
+        roll_all(names, tranches, into, discount, paid, defaults);
         accrue(accrual, left, premiums);
         earn(names, tranches, held, fraction, left, earned);
         held = fraction;
-        roll_all(names, tranches, &hazards[a..e], discount, earned, premiums);
+        roll_all(names, tranches, into, discount, earned, premiums);
     }
 }

@@ -1,27 +1,20 @@
 -- What the call answers, case by case.
-use Prim.Native.Nat.{ℕ}
-use mathlib.Core.Path.{◌≡◌, refl, sym, ◌∙◌}
-use mathlib.Core.Logic.{◌≢◌}
-use mathlib.Core.Bool.{Bool, true, false, true≢false}
-use mathlib.Core.List.{List}
+use Rattle.std.proofs.Common.{Ok, Err, ℕ, ◌≡◌, refl, sym, ◌∙◌, ◌≢◌, Bool, true, false, true≢false, List, eq-eqb, ne_eqb, ℤ, length}
 use native.Mathlib.Decide.{ℕ_discrete}
-use borrow.Author.Tests.{eq-eqb, ne_eqb}
-use lib.IntN.{ℤ}
-use lib.ListN.{length}
 use Rattle.totals.specs.Totals.{Taken, taken}
 use Rattle.totals.proofs.Taken.{taken_told, taken_tests}
-use Rattle.book.specs.declared.Report.{Report}
+use Rattle.book.specs.declared.BookRefusal.{BookRefusal}
 use Rattle.book.specs.Lines.{book_line}
 use Rattle.book.specs.Answers.{report_answer}
 
 module _ (ns ws : List ℤ) (lent : List ℕ) where
-  pub answer_length : length lent ≢ 96 → report_answer ns ws lent ≡ Report.Length
+  pub answer_length : length lent ≢ 96 → report_answer ns ws lent ≡ Err BookRefusal.Length
   answer_length h = simp (ne_eqb (length lent) 96 h)
 
-  pub answer_book : length lent ≡ 96 → taken ns ws ≡ false → report_answer ns ws lent ≡ Report.Book
+  pub answer_book : length lent ≡ 96 → taken ns ws ≡ false → report_answer ns ws lent ≡ Err BookRefusal.Book
   answer_book h t = simp (eq-eqb (length lent) 96 h, t)
 
-  pub answer_written : length lent ≡ 96 → taken ns ws ≡ true → report_answer ns ws lent ≡ Report.Written (length (book_line ns ws))
+  pub answer_written : length lent ≡ 96 → taken ns ws ≡ true → report_answer ns ws lent ≡ Ok (length (book_line ns ws))
   answer_written h t = simp (eq-eqb (length lent) 96 h, t)
 
 -- What the lists and the bytes lent are: one of three things.

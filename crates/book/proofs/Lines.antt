@@ -1,11 +1,6 @@
 -- The line of three numbers is the one that is written, and it has room.
-use Prim.Native.Nat.{ℕ, suc, ◌+◌, ◌≤◌, ◌<◌}
-use mathlib.Core.Path.{◌≡◌, refl, sym, ap, ◌∙◌, subst}
-use mathlib.Core.List.{List, [], ◌∷◌, ◌++◌, append_assoc}
-use native.Mathlib.Omega.{arith}
-use lib.Dec.{lit≤}
-use lib.IntN.{ℤ}
-use lib.ListN.{length, length-append, get_or, drop}
+use Rattle.std.proofs.Common.{ℕ, suc, ◌+◌, ◌≤◌, ◌<◌, ◌≡◌, refl, sym, ap, ◌∙◌, subst, List, [], ◌∷◌, ◌++◌, append_assoc, arith, lit≤, ℤ, length}
+use Rattle.std.proofs.Common.{length-append, get_or, drop}
 use Rattle.lines.specs.Text.{signed, field}
 use Rattle.lines.proofs.Laws.{length_signed}
 use Rattle.amounts.specs.Printed.{IsPrinted}

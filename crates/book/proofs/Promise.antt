@@ -1,23 +1,15 @@
 -- Our call keeps the promise, and no other does.
-use Prim.Native.Nat.{ℕ, zero, suc, ◌+◌, ◌≤◌}
-use mathlib.Core.Path.{◌≡◌, refl, sym, ap, ◌∙◌, subst}
-use mathlib.Core.Logic.{◌≢◌}
-use mathlib.Core.Bool.{Bool, true, false, cond, true≢false}
-use lib.Dec.{eqb}
-use mathlib.Core.List.{List, [], ◌∷◌, ◌++◌}
-use native.Mathlib.Omega.{arith}
-use lib.IntN.{ℤ, pos, negsuc, nat_abs, ◌+ℤ◌}
-use lib.ListN.{length, length-append, length-drop, drop}
+use Rattle.std.proofs.Common.{Ok, Err, ℕ, zero, suc, ◌+◌, ◌≤◌, ◌≡◌, refl, sym, ap, ◌∙◌, subst, ◌≢◌, Bool, true, false, cond, true≢false, eqb, List, [], ◌∷◌, ◌++◌, arith, ℤ, pos, negsuc, nat_abs, ◌+ℤ◌, length, length-append, length-drop, drop}
 use lib.Seq.{sets-eq}
 use Rattle.lines.specs.Text.{Wrote}
 use Rattle.hedges.specs.Hedges.{negative, with_sign}
 use Rattle.totals.specs.Totals.{total, gains, losses, Taken, taken, gain_of, loss_of}
-use Rattle.totals.proofs.Taken.{taken_told, taken_tests}
+use Rattle.totals.proofs.Taken.{taken_tests}
 use Rattle.totals.proofs.Laws.{gains_and_losses}
 use Rattle.totals.proofs.Partway.{sizes_of, gains_by_sizes, losses_by_sizes}
-use Rattle.book.specs.declared.Report.{Report}
+use Rattle.book.specs.declared.BookRefusal.{BookRefusal}
 use Rattle.book.specs.Lines.{IsLine, line_of, book_line}
-use Rattle.book.specs.Answers.{report_answer, starting_with, left_by, report_leaves}
+use Rattle.book.specs.Answers.{Answer, report_answer, starting_with, left_by}
 use Rattle.book.specs.Promise.{Result, Reporter, refuses, Reports, BookRule, Adds}
 use Rattle.book.specs.Promise.{Position, nominals_of, values_of, SamePositions, Keeps, reported_by, ours}
 use Rattle.book.proofs.Lines.{one_line, one_reading, line_fits}
@@ -27,7 +19,7 @@ use Rattle.book.proofs.Answers.{answer_length, answer_book, answer_written, Says
 -- ---- the rule
 
 module _ (ns ws : List ℤ) (lent : List ℕ) where
-  gives : {a : Report} → report_answer ns ws lent ≡ a → ours ns ws lent ≡ reported_by a (left_by a ns ws lent)
+  gives : {a : Answer} → report_answer ns ws lent ≡ a → ours ns ws lent ≡ reported_by a (left_by a ns ws lent)
   gives e = ap (λ a. reported_by a (left_by a ns ws lent)) e
 
   pub our_line : length lent ≡ 96 → Taken ns ws →
@@ -42,31 +34,19 @@ module _ (ns ws : List ℤ) (lent : List ℕ) where
         accepted = λ h t. record { text = book_line ns ws; line = (one_line (total ns ws) (gains ns ws) (losses ns ws)).line; is = our_line h t };
       }
 
-  -- What the contract says: the equations, and with them the rule.
-  abbrev pub Meets : Report → List ℕ → Type 0
-  Meets a left = (a ≡ report_answer ns ws lent) × ((left ≡ report_leaves ns ws lent) × BookRule ns ws lent (reported_by a left))
+-- What gives back as ours keeps the rule.
+pub book_rule : (ns ws : List ℤ) (lent : List ℕ) (o : Result) → o ≡ ours ns ws lent → BookRule ns ws lent o
+book_rule ns ws lent o e = subst (BookRule ns ws lent) (sym e) (our_rule ns ws lent)
 
-  meets : {a : Report} {left : List ℕ} → a ≡ report_answer ns ws lent → left ≡ left_by a ns ws lent → Meets a left
-  meets {a} {left} e k =
-      let leaves : left ≡ report_leaves ns ws lent = k ∙ ap (λ b. left_by b ns ws lent) e in
-      let rule = subst (λ b. BookRule ns ws lent (reported_by b (report_leaves ns ws lent))) (sym e) our_rule in
-      (e, (leaves, subst (λ x. BookRule ns ws lent (reported_by a x)) (sym leaves) rule))
-
-  pub meets_length : length lent ≢ 96 → Meets Report.Length lent
-  meets_length h = meets (sym (answer_length ns ws lent h)) refl
-
-  pub meets_book : length lent ≡ 96 → taken ns ws ≡ false → Meets Report.Book lent
-  meets_book h t = meets (sym (answer_book ns ws lent h t)) refl
-
-  -- Text that was written from the start on is there, and behind it what was lent.
-  pub meets_line : length lent ≡ 96 → taken ns ws ≡ true → (after : List ℕ) (end : ℕ) → Wrote lent 0 (book_line ns ws) after end →
-      Meets (Report.Written end) after
-  meets_line h t after end w =
-      let told : end ≡ length (book_line ns ws) = omega (arith, w.stop) in
-      let room : 0 + length (book_line ns ws) ≤ length lent = omega (arith, line_fits ns ws (taken_told ns ws t), h) in
-      let behind : 0 + length (book_line ns ws) ≡ length (book_line ns ws) = omega arith in
-      meets (ap Report.Written told ∙ sym (answer_written ns ws lent h t))
-      (w.bytes ∙ sets-eq (book_line ns ws) lent 0 room ∙ ap (λ k. book_line ns ws ++ drop k lent) behind)
+-- Text that was written from the start on is there, and behind it what was lent; its end is as far as it is long.
+pub line_written : (ns ws : List ℤ) (lent after : List ℕ) (end : ℕ) → length lent ≡ 96 → Taken ns ws →
+    Wrote lent 0 (book_line ns ws) after end → (end ≡ length (book_line ns ws)) × (after ≡ starting_with (book_line ns ws) lent)
+line_written ns ws lent after end h t w =
+    let room : 0 + length (book_line ns ws) ≤ length lent = omega (arith, line_fits ns ws t, h) in
+    let behind : 0 + length (book_line ns ws) ≡ length (book_line ns ws) = omega arith in (
+      omega (arith, w.stop),
+      w.bytes ∙ sets-eq (book_line ns ws) lent 0 room ∙ ap (λ k. book_line ns ws ++ drop k lent) behind,
+    )
 
 -- ---- no other keeps it
 
@@ -145,8 +125,8 @@ told lent t text =
 pub our_told : (ns ws : List ℤ) (lent : List ℕ) → ours ns ws lent ≡ told lent (taken ns ws) (book_line ns ws)
 our_told ns ws lent = go (eqb (length lent) 96) (taken ns ws)
   where
-    answered : Bool → Bool → Report
-    answered s t = cond s (cond t (Report.Written (length (book_line ns ws))) Report.Book) Report.Length
+    answered : Bool → Bool → Answer
+    answered s t = cond s (cond t (Ok (length (book_line ns ws))) (Err BookRefusal.Book)) (Err BookRefusal.Length)
 
     go : (s t : Bool) → reported_by (answered s t) (left_by (answered s t) ns ws lent)
         ≡ cond s

@@ -1,9 +1,8 @@
 -- The promise of a book (T-09), of any function in the place of the call: `Keeps`.
 use Rattle.std.specs.Prelude.{ℕ, suc, ◌+◌, ◌≡◌, ◌≢◌, Bool, false, cond, ◌&&◌, List, [], ◌∷◌, ◌++◌, map, eqb, ℤ, pos, negsuc, ◌+ℤ◌, length}
 use Rattle.totals.specs.Totals.{total, gains, losses, Taken}
-use Rattle.book.specs.declared.Report.{Report}
 use Rattle.book.specs.Lines.{IsLine}
-use Rattle.book.specs.Answers.{report_number, report_values, report_answer, starting_with, report_leaves}
+use Rattle.book.specs.Answers.{Answer, report_number, report_values, report_answer, starting_with, report_leaves}
 
 -- What the call gives back, 0 and the line's bytes or a refusal's number alone, and the bytes that it leaves.
 pub record Result : Type 0 where
@@ -83,7 +82,7 @@ pub record Keeps (f : Reporter) : Type 0 where
       f (nominals_of a) (values_of a) lent ≡ f (nominals_of b) (values_of b) lent
 
 -- An answer of the code, and the bytes left with it, as this result.
-abbrev pub reported_by : Report → List ℕ → Result
+abbrev pub reported_by : Answer → List ℕ → Result
 reported_by answer left = record { number = report_number answer; values = report_values answer; left = left }
 
 -- Ours: what the contract of `book::total` says.

@@ -6,45 +6,33 @@ ghost use Rattle.std.specs.Prelude.{◌≡◌, ◌≤◌, length};
 ghost use Rattle.lines.specs.Text.{Wrote};
 ghost use Rattle.amounts.specs.Amounts.{figure_of, Proper};
 ghost use Rattle.book.specs.Lines.{line_of};
-ghost use Rattle.book.specs.Answers.{report_number, bytes_in, report_answer, report_leaves};
+ghost use Rattle.book.specs.Answers.{refusal_number, report_answer, report_leaves};
 ghost use Rattle.book.specs.Promise.{BookRule, reported_by};
 
 use totals::Totals;
 
-// What the call answers.
-#[derive(Clone, Copy)]
-pub enum Report {
-    // 0, and the bytes of the line
-    Written(usize),
+// Why a book has no line.
+#[derive(Clone, Copy, PartialEq, Eq)]
+pub enum BookRefusal {
     // 2, length
     Length,
     // 28, book
     Book,
 }
 
+impl From<BookRefusal> for u8 {
+    ghost from_gives = { λ refusal number. number ≡ refusal_number refusal };
+
+    fn from(refusal: BookRefusal) -> u8 {
+        match refusal {
+            BookRefusal::Length => 2,
+            BookRefusal::Book => 28,
+        }
+    }
+}
+
 // The bytes that are lent for the line.
 const SIZE: usize = 96;
-
-pub fn report_number(report: Report) -> u8
-    ensures { result ≡ report_number report }
-{
-    match report {
-        Report::Written(_) => 0,
-        Report::Length => 2,
-        Report::Book => 28,
-    }
-}
-
-// The bytes of the line, or 0.
-pub fn bytes_in(report: Report) -> usize
-    ensures { result ≡ bytes_in report }
-{
-    match report {
-        Report::Written(bytes) => bytes,
-        Report::Length => 0,
-        Report::Book => 0,
-    }
-}
 
 // Stores the line: the one place that writes.
 fn store_line(out: &mut [u8], totals: Totals) -> usize
@@ -64,17 +52,18 @@ fn store_line(out: &mut [u8], totals: Totals) -> usize
     lines::put_end(out, third)
 }
 
-// The totals of a book, at the start of what is lent: refused by its length, then by the book, and then nothing is written.
-pub fn total(nominals: &[i64], values: &[i64], out: &mut [u8]) -> Report
+// The totals of a book, at the start of what is lent: the bytes of their line. Refused by its length, then by the book, and then nothing is written.
+#[tactic(auto, using(crate::proofs::Promise::book_rule))]
+pub fn total(nominals: &[i64], values: &[i64], out: &mut [u8]) -> Result<usize, BookRefusal>
     ensures answer { result ≡ report_answer nominals.now values.now out.old }
     ensures leaves { out.new ≡ report_leaves nominals.now values.now out.old }
     ensures rule { BookRule nominals.now values.now out.old (reported_by result out.new) }
 {
     if out.len() != SIZE {
-        return Report::Length;
+        return Err(BookRefusal::Length);
     }
-    if totals::is_taken(nominals, values) {
-        return Report::Written(store_line(out, totals::add_up(nominals, values)));
+    if !totals::is_taken(nominals, values) {
+        return Err(BookRefusal::Book);
     }
-    Report::Book
+    Ok(store_line(out, totals::add_up(nominals, values)))
 }

@@ -1,5 +1,5 @@
 -- The books as they are computed.
-use mathlib.Core.Path.{refl}
+use Rattle.std.proofs.Common.{refl}
 use Rattle.lines.specs.Text.{decimal, signed, field}
 use Rattle.totals.specs.Totals.{total_of, all_within}
 use Rattle.book.specs.Lines.{line_of}

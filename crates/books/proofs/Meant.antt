@@ -1,10 +1,5 @@
 -- What the promise comes to.
-use Prim.Native.Nat.{ℕ, suc}
-use mathlib.Core.Path.{◌≡◌, refl, ap}
-use mathlib.Core.List.{List, [], ◌∷◌, ◌++◌}
-use native.Mathlib.Omega.{arith}
-use lib.IntN.{ℤ}
-use lib.ListN.{length, drop}
+use Rattle.std.proofs.Common.{ℕ, suc, ◌≡◌, refl, ap, List, [], ◌∷◌, ◌++◌, arith, ℤ, length, drop}
 use Rattle.book.specs.Promise.{Reporter, refuses, Position, SamePositions, Keeps}
 use Rattle.book.proofs.Answers.{Says, wrong, bad, good, says}
 use Rattle.totals.specs.Totals.{total, gains, losses}

@@ -1,12 +1,6 @@
 -- No wrong reporter keeps the promise: each tells or leaves something else than ours at the book named.
-use Prim.Native.Nat.{ℕ}
-use mathlib.Core.Path.{◌≡◌, refl, sym, ◌∙◌, ap}
-use mathlib.Core.Bool.{Bool, true, false, cond, not}
-use mathlib.Core.List.{List, [], ◌∷◌}
-use native.Mathlib.Omega.{arith}
-use lib.Dec.{eqb}
-use lib.IntN.{ℤ, pos, negsuc, nat_abs, ◌+ℤ◌, ◌*ℤ◌}
-use lib.ListN.{length, get_or, replicate}
+use Rattle.std.proofs.Common.{ℕ, ◌≡◌, refl, sym, ◌∙◌, ap, Bool, true, false, cond, not, List, [], ◌∷◌, arith, eqb, ℤ, pos, negsuc, nat_abs, ◌+ℤ◌}
+use Rattle.std.proofs.Common.{◌*ℤ◌, length, get_or, replicate}
 use Rattle.hedges.specs.Hedges.{negative, with_sign}
 use Rattle.lines.specs.Text.{decimal, signed, field}
 use Rattle.amounts.specs.Amounts.{padded}

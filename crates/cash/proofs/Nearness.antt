@@ -1,8 +1,5 @@
 -- Laws of nearness.
-use Prim.Native.Nat.{ℕ, ◌+◌, ◌*◌, ◌≤◌, ◌<◌}
-use mathlib.Core.Path.{◌≡◌}
-use native.Mathlib.Nat.{mul-le-mul_left, le_of_mul-le-mul_right}
-use native.Mathlib.Omega.{arith}
+use Rattle.std.proofs.Common.{ℕ, ◌+◌, ◌*◌, ◌≤◌, ◌<◌, ◌≡◌, mul-le-mul_left, le_of_mul-le-mul_right, arith}
 use Rattle.cash.specs.Near.{Near}
 
 pub near_refl : (d x : ℕ) → Near d x x

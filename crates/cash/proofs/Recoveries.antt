@@ -1,8 +1,7 @@
 -- Laws of what is recovered, and of what it leaves outstanding.
-use Prim.Native.Nat.{ℕ, suc, ◌+◌, ◌-◌, ◌*◌, ◌≤◌, ◌<◌, min}
-use mathlib.Core.Path.{◌≡◌, refl, sym, ◌∙◌, ap, ap₂}
-use native.Mathlib.Nat.{le_of_lt, le_trans, add-sub_of_le, mul-le-mul_right, div-le_of_le-mul}
-use native.Mathlib.Omega.{arith}
+use Rattle.std.proofs.Common.{ℕ, suc, ◌+◌, ◌-◌, ◌*◌, ◌≤◌, ◌<◌, min, ◌≡◌, refl, sym, ◌∙◌, ap, ap₂, le_of_lt, le_trans, add-sub_of_le, mul-le-mul_right}
+use Rattle.std.proofs.Common.{arith}
+use native.Mathlib.Nat.{div-le_of_le-mul}
 use native.Mathlib.Decide.{dec_le}
 use Rattle.cash.specs.Units.{B}
 use Rattle.cash.specs.Sums.{sum_to, Rising}

@@ -1,8 +1,5 @@
 -- Laws of B and half.
-use Prim.Native.Nat.{ℕ, ◌*◌, ◌≤◌, ◌<◌}
-use mathlib.Core.Path.{◌≡◌}
-use native.Mathlib.Omega.{arith}
-use lib.Dec.{lit<}
+use Rattle.std.proofs.Common.{ℕ, ◌*◌, ◌≤◌, ◌<◌, ◌≡◌, arith, lit<}
 use Rattle.cash.specs.Units.{B, half}
 use Rattle.cash.specs.Near.{Near}
 

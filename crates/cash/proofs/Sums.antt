@@ -1,9 +1,7 @@
 -- Laws of sums.
-use Prim.Native.Nat.{ℕ, zero, suc, ◌+◌, ◌-◌, ◌*◌, ◌≤◌, ◌<◌}
-use mathlib.Core.Path.{◌≡◌, refl, ap, ap₂}
-use mathlib.Core.Logic.{◌⊎◌, inl, inr}
-use native.Mathlib.Nat.{le_refl, le_step, le_of_lt, le_trans, le_of_eq, eq-or-lt_of_le}
-use native.Mathlib.Omega.{arith}
+use Rattle.std.proofs.Common.{ℕ, zero, suc, ◌+◌, ◌-◌, ◌*◌, ◌≤◌, ◌<◌, ◌≡◌, refl, ap, ap₂, ◌⊎◌, inl, inr, le_refl, le_of_lt, le_trans, le_of_eq}
+use Rattle.std.proofs.Common.{eq-or-lt_of_le, arith}
+use native.Mathlib.Nat.{le_step}
 use Rattle.cash.specs.Near.{Near}
 use Rattle.cash.specs.Sums.{sum_to, Rising}
 use Rattle.cash.proofs.Nearness.{near_refl, near_add}

@@ -1,6 +1,5 @@
 -- Worked figures of the definitions, by computation: document 01's starred entries on losses and halves.
-use mathlib.Core.Path.{◌≡◌, refl}
-use Prim.Native.Nat.{ℕ}
+use Rattle.std.proofs.Common.{◌≡◌, refl, ℕ}
 use Rattle.cash.specs.Units.{B, half}
 use Rattle.cash.specs.Losses.{pool_loss, pool_recovery, tranche_loss, tranche_recovery, tranche_outstanding, index_outstanding}
 

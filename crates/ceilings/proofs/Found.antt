@@ -1,14 +1,8 @@
 -- Laws of a search for an entry over its ceiling.
-use Prim.Native.Nat.{ℕ, zero, suc, ◌+◌, ◌-◌, ◌*◌, ◌/◌, ◌%◌, ◌≤◌, ◌<◌}
-use mathlib.Core.Path.{◌≡◌, refl, ap, sym, ◌∙◌}
-use mathlib.Core.Bool.{Bool, true, false, ◌||◌}
-use mathlib.Core.List.{List, []}
-use native.Mathlib.Omega.{arith}
+use Rattle.std.proofs.Common.{ℕ, zero, suc, ◌+◌, ◌-◌, ◌*◌, ◌/◌, ◌%◌, ◌≤◌, ◌<◌, ◌≡◌, refl, ap, sym, ◌∙◌, Bool, true, false, ◌||◌, List, [], arith}
+use Rattle.std.proofs.Common.{length, get_or, drop, ltb, lit≤, ltb-false, lt-ltb, le-ltb}
 use native.Mathlib.Decide.{ℕ_discrete}
-use lib.ListN.{length, get_or, drop}
 use lib.Arith.{digits_lt, digits_div, digits_mod}
-use lib.Dec.{ltb, lit≤}
-use borrow.Author.Tests.{ltb-false, lt-ltb, le-ltb}
 use Rattle.cash.specs.Units.{B}
 use Rattle.sheet.specs.Terms.{Terms, sum_of, terms_of, bare}
 use Rattle.sheet.specs.Limits.{TermsWithin}
@@ -27,9 +21,6 @@ use Rattle.tranches.proofs.Losses.{width_most, ceiling_bare}
 pub record Clean (w : ℕ) (f : ℕ → ℕ → Bool) (n : ℕ) : Type 0 where
   pub under : (j k : ℕ) → k < w → j * w + k < n → f j k ≡ false
 
-pub clean_none : (w : ℕ) (f : ℕ → ℕ → Bool) → Clean w f 0
-clean_none w f = record { under = λ j k h q. absurd (omega arith) }
-
 pub clean_more : (w : ℕ) (f : ℕ → ℕ → Bool) (j k n : ℕ) → Clean w f n → n ≡ j * w + k → k < w → f j k ≡ false → Clean w f (n + 1)
 clean_more w f j k n c e h t = record { under = λ i l q p. go i l q p (ℕ_discrete (i * w + l) n) }
   where
@@ -40,6 +31,10 @@ clean_more w f j k n c e h t = record { under = λ i l q p. go i l q p (ℕ_disc
         let l_is : l ≡ k = sym (digits_mod i q) ∙ ap (λ y. y % w) same ∙ digits_mod j h in
         rw (i_is, l_is) t
     go i l q p (no d) = c.under i l q (omega arith)
+
+-- a place of the rows
+pub place_inside : (r w j k place : ℕ) → j < r → k < w → place ≡ j * w + k → place < r * w
+place_inside r w j k place h l e = omega (arith, digits_lt {q = j} {m = r} {r = k} {c = w} h l, e)
 
 pub over_found : (r w : ℕ) (f : ℕ → ℕ → Bool) (j k : ℕ) → j < r → k < w → f j k ≡ true → any r (λ j. any w (f j)) ≡ true
 over_found r w f j k hj hk e = any_hit r (λ j. any w (f j)) j hj (any_hit w (f j) k hk e)

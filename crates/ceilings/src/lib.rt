@@ -19,14 +19,7 @@ fn accruals_after(accruals: &[u64], position: usize) -> u64
     requires { sum_of accruals.now ≤ 10 * B }
     ensures { result ≡ sum_of (drop position accruals.now) }
 {
-    let size = accruals.len();
-    let mut sum = 0;
-    let mut i = size;
-    while position < i {
-        i -= 1;
-        sum += accruals[i];
-    }
-    sum
+    accruals[position.min(accruals.len())..].iter().sum()
 }
 
 // The ceiling of a premium leg at the last count: the accruals after a step, and two units for each step to come.
@@ -34,11 +27,8 @@ fn premium_most(pool: Pool, accruals: &[u64], position: usize) -> u64
     requires { (sum_of accruals.now ≤ 10 * B) × (pool.steps ≤ 3650) }
     ensures { (result ≡ sum_of (drop position accruals.now) + 2 * (pool.steps - position)) × (result ≤ 11 * B) }
 {
-    let after = accruals_after(accruals, position);
-    if pool.steps < position {
-        return after;
-    }
-    after + 2 * ((pool.steps - position) as u64)
+    let to_come = pool.steps.saturating_sub(position);
+    accruals_after(accruals, position) + 2 * (to_come as u64)
 }
 
 // Whether an entry of one of the rows is over its ceiling: a default leg over what its tranche has left to lose, a premium leg over `most` and a unit
@@ -59,29 +49,23 @@ fn any_over(
         ltb (default_most (bare pool attachments.now) j k) (entry (suc pool.names) defaults.now j k)
         || ltb (most + (pool.names - k)) (entry (suc pool.names) premiums.now j k))) }
 {
-    let names = pool.names;
-    let tranches = pool.tranches;
     let mut found = false;
     let mut place = 0;
-    let mut j = 0;
-    'search: while j <= tranches {
+    'search: for j in 0..=pool.tranches {
         let lower = tranches::lower_of(pool, attachments, j);
         let upper = tranches::upper_of(pool, attachments, j);
-        let mut k = 0;
-        while k <= names {
-            let left = cash::left_to_lose(lower, upper, losses[k]);
+        for (k, &loss) in losses.iter().enumerate() {
+            let left = cash::left_to_lose(lower, upper, loss);
             if left < defaults[place] {
                 found = true;
                 break 'search;
             }
-            if most + ((names - k) as u64) < premiums[place] {
+            if most + ((pool.names - k) as u64) < premiums[place] {
                 found = true;
                 break 'search;
             }
             place += 1;
-            k += 1;
         }
-        j += 1;
     }
     found
 }

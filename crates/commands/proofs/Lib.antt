@@ -1,4 +1,3 @@
-pub mod Arms
 pub mod Examples
 pub mod Laws
 pub mod Low

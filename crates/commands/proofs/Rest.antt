@@ -1,61 +1,46 @@
--- Command bytes that are no commands, and what the tests of `command_at` say.
-use Prim.Native.Nat.{ℕ, suc, ◌+◌, ◌-◌, ◌≤◌, ◌<◌}
-use mathlib.Core.Path.{◌≡◌, refl, sym, subst}
-use mathlib.Core.Bool.{Bool, true, false, ◌&&◌}
-use mathlib.Core.List.{List}
-use native.Mathlib.Omega.{arith}
-use borrow.Author.Tests.{leb-true, le-leb, lt-leb}
-use lib.Dec.{T, leb}
-use lib.ListN.{length, get_or}
-use Rattle.commands.specs.Commands.{operands, decoded, commands, is_command, command_at}
-use Rattle.commands.specs.declared.Command.TheVariants.{Unknown, CutShort}
+-- What the tests of `command_at` say.
+use borrow.Author.Tests.{lt-leb}
+use Rattle.commands.specs.Commands.{operands, decoded, is_command, command_at}
+use Rattle.commands.specs.declared.Stop.TheVariants.{Unknown, CutShort}
+use Rattle.commands.specs.declared.Kind.{Kind}
+use Rattle.commands.specs.declared.Kind.TheVariants.{Pool, Attachment, Hazard, Step, Coupon, Issue, Withdraw, Open, Back, Value, Delta, Forward, Elapsed}
+use Rattle.commands.specs.Kinds.{code_of}
+use Rattle.std.proofs.Common.{ℕ, ◌+◌, ◌-◌, ◌≤◌, ◌<◌, ◌≡◌, refl, ap, subst, true, false, List, arith, le-leb, length, get_or, Err}
 
-below : (code : ℕ) (s : List ℕ) (b : ℕ) → code ≡ 0 → Unknown ≡ decoded code s b
-unfolding decoded commands
-below code s b e = rw e
-
-and_left : (a b : Bool) → a && b ≡ true → a ≡ true
-and_left true b h = refl
-and_left false b h = h
-
-and_right : (a b : Bool) → a && b ≡ true → b ≡ true
-and_right true b h = h
-and_right false b h = absurd (subst T (sym h) tt)
-
--- a bound that is not met is one lower, or one higher
-down : {code k : ℕ} → code ≤ suc k → (code ≡ suc k → ⊥) → code ≤ k
-down h ne = omega arith
-
-up : {code k : ℕ} → k ≤ code → (code ≡ k → ⊥) → suc k ≤ code
-up h ne = omega arith
-
-zero_of : {code : ℕ} → code ≤ 0 → code ≡ 0
-zero_of h = omega arith
-
-pub no_entry : (code : ℕ) (s : List ℕ) (b : ℕ) → code ≤ 5 → (code ≡ 1 → ⊥) → (code ≡ 2 → ⊥) → (code ≡ 3 → ⊥) → (code ≡ 4 → ⊥) → (code ≡ 5 → ⊥) → Unknown ≡ decoded code s b
-no_entry code s b h n1 n2 n3 n4 n5 = below code s b (zero_of (down (down (down (down (down h n5) n4) n3) n2) n1))
-
-pub no_order : (code : ℕ) (s : List ℕ) (b : ℕ) → 6 ≤ code → code ≤ 12 → (code ≡ 6 → ⊥) → (code ≡ 7 → ⊥) → (code ≡ 8 → ⊥) → (code ≡ 9 → ⊥) → (code ≡ 10 → ⊥) → (code ≡ 11 → ⊥) → (code ≡ 12 → ⊥) → Unknown ≡ decoded code s b
-no_order code s b h most n6 n7 n8 n9 n10 n11 n12 = absurd (omega (arith, up (up (up (up (up (up (up h n6) n7) n8) n9) n10) n11) n12))
-
--- the tests of `command_at`
-pub in_table : (code : ℕ) → is_command code ≡ true → (1 ≤ code) × (code ≤ 13)
-in_table code h =
-    (leb-true 1 code (and_left (leb 1 code) (leb code 13) h), leb-true code 13 (and_right (leb 1 code) (leb code 13) h))
+-- the byte of a kind is a command
+known : (kind : Kind) → is_command (code_of kind) ≡ true
+known Pool = refl
+known Attachment = refl
+known Hazard = refl
+known Step = refl
+known Coupon = refl
+known Issue = refl
+known Withdraw = refl
+known Open = refl
+known Back = refl
+known Value = refl
+known Delta = refl
+known Forward = refl
+known Elapsed = refl
 
 module _ (s : List ℕ) (at : ℕ) where
-  pub unknown : is_command (get_or s at 0) ≡ false → Unknown ≡ command_at s at
+  pub unknown : is_command (get_or s at 0) ≡ false → Err Unknown ≡ command_at s at
   unfolding command_at
   unknown h = rw h
 
-  pub cut_short : is_command (get_or s at 0) ≡ true → length s - at - 1 < operands (get_or s at 0) → CutShort ≡ command_at s at
-  unfolding command_at
-  cut_short k h =
-      let g : length s - (at + 1) < operands (get_or s at 0) = omega arith in
-      rw (k, lt-leb _ _ g)
+  -- at the byte of a kind
+  module _ (kind : Kind) (e : code_of kind ≡ get_or s at 0) where
+    read : is_command (get_or s at 0) ≡ true
+    read = subst (λ (code : ℕ). is_command code ≡ true) e (known kind)
 
-  pub whole : is_command (get_or s at 0) ≡ true → operands (get_or s at 0) ≤ length s - at - 1 → decoded (get_or s at 0) s (at + 1) ≡ command_at s at
-  unfolding command_at
-  whole k h =
-      let g : operands (get_or s at 0) ≤ length s - (at + 1) = omega arith in
-      rw (k, le-leb _ _ g)
+    pub cut_short : length s - at - 1 < operands (code_of kind) → Err CutShort ≡ command_at s at
+    unfolding command_at
+    cut_short h =
+        let g : length s - (at + 1) < operands (get_or s at 0) = omega (arith, ap operands e) in
+        rw (read, lt-leb _ _ g)
+
+    pub whole : operands (code_of kind) ≤ length s - at - 1 → decoded (code_of kind) s (at + 1) ≡ command_at s at
+    unfolding command_at
+    whole h =
+        let g : operands (get_or s at 0) ≤ length s - (at + 1) = omega (arith, ap operands e) in
+        rw (read, le-leb _ _ g) (ap (λ (code : ℕ). decoded code s (at + 1)) e)

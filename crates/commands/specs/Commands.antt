@@ -1,7 +1,9 @@
 -- The commands of a deck, as document 01, 'Deck and printing program', lists them.
-use Rattle.std.specs.Prelude.{ℕ, zero, suc, ◌+◌, ◌-◌, ◌*◌, Bool, true, false, ◌&&◌, List, [], ◌∷◌, leb, length, get_or}
+use Rattle.std.specs.Prelude.{ℕ, zero, suc, ◌+◌, ◌-◌, ◌*◌, Bool, true, false, ◌&&◌, Result, Ok, Err, List, [], ◌∷◌, leb, length, get_or}
 use Rattle.commands.specs.declared.Command.{Command}
-use Rattle.commands.specs.declared.Command.TheVariants.{Enter, Act, Unknown, CutShort}
+use Rattle.commands.specs.declared.Command.TheVariants.{Enter, Act}
+use Rattle.commands.specs.declared.Stop.{Stop}
+use Rattle.commands.specs.declared.Stop.TheVariants.{Unknown, CutShort}
 use Rattle.commands.specs.declared.Entry.{Entry}
 use Rattle.commands.specs.declared.Entry.TheVariants.{Pool, Attachment, Hazard, Step, Coupon, Elapsed}
 use Rattle.commands.specs.declared.Order.{Order}
@@ -23,29 +25,29 @@ operands code = get_or widths code 0
 
 -- the commands of the bytes 00, 01, .. 0D, with their operands in s from b on; document 01 calls an attachment point a cut,
 -- a tranche a slice, and a count k
-unfoldable pub commands : List ℕ → ℕ → List Command
+unfoldable pub commands : List ℕ → ℕ → List (Result Command Stop)
 commands s b =
-    Unknown
-    ∷ Enter (Pool (low_first 1 s b) (low_first 2 s (b + 1)) (low_first 1 s (b + 3)) (low_first 4 s (b + 4)) (low_first 1 s (b + 8)))
-    ∷ Enter (Attachment (low_first 4 s b))
-    ∷ Enter (Hazard (low_first 4 s b))
-    ∷ Enter (Step (low_first 4 s b) (low_first 4 s (b + 4)))
-    ∷ Enter (Coupon (low_first 4 s b))
-    ∷ Act (Issue (low_first 1 s b))
-    ∷ Act (Withdraw (low_first 1 s b))
-    ∷ Act Open
-    ∷ Act (Back (low_first 2 s b))
-    ∷ Act (Value (low_first 1 s b) (low_first 1 s (b + 1)))
-    ∷ Act (Delta (low_first 1 s b) (low_first 1 s (b + 1)))
-    ∷ Act (Forward (low_first 2 s b) (low_first 1 s (b + 2)))
-    ∷ Enter (Elapsed (low_first 4 s b))
+    Err Unknown
+    ∷ Ok (Enter (Pool (low_first 1 s b) (low_first 2 s (b + 1)) (low_first 1 s (b + 3)) (low_first 4 s (b + 4)) (low_first 1 s (b + 8))))
+    ∷ Ok (Enter (Attachment (low_first 4 s b)))
+    ∷ Ok (Enter (Hazard (low_first 4 s b)))
+    ∷ Ok (Enter (Step (low_first 4 s b) (low_first 4 s (b + 4))))
+    ∷ Ok (Enter (Coupon (low_first 4 s b)))
+    ∷ Ok (Act (Issue (low_first 1 s b)))
+    ∷ Ok (Act (Withdraw (low_first 1 s b)))
+    ∷ Ok (Act Open)
+    ∷ Ok (Act (Back (low_first 2 s b)))
+    ∷ Ok (Act (Value (low_first 1 s b) (low_first 1 s (b + 1))))
+    ∷ Ok (Act (Delta (low_first 1 s b) (low_first 1 s (b + 1))))
+    ∷ Ok (Act (Forward (low_first 2 s b) (low_first 1 s (b + 2))))
+    ∷ Ok (Enter (Elapsed (low_first 4 s b)))
     ∷ []
 
 -- the command of a command byte
-unfoldable pub decoded : ℕ → List ℕ → ℕ → Command
-decoded code s b = get_or (commands s b) code Unknown
+abbrev pub decoded : ℕ → List ℕ → ℕ → Result Command Stop
+decoded code s b = get_or (commands s b) code (Err Unknown)
 
-abbrev pub pick : Bool → Command → Command → Command
+abbrev pub pick : Bool → Result Command Stop → Result Command Stop → Result Command Stop
 pick true a b = a
 pick false a b = b
 
@@ -54,11 +56,11 @@ abbrev pub is_command : ℕ → Bool
 is_command code = leb 1 code && leb code 13
 
 -- what stands at an offset: 18 for a byte that is no command, then 19 for operands that run past the end, else the command
-unfoldable pub command_at : List ℕ → ℕ → Command
+unfoldable pub command_at : List ℕ → ℕ → Result Command Stop
 command_at s at =
     let code = get_or s at 0 in
     let rest = length s - (at + 1) in
-    pick (is_command code) (pick (leb (operands code) rest) (decoded code s (at + 1)) CutShort) Unknown
+    pick (is_command code) (pick (leb (operands code) rest) (decoded code s (at + 1)) (Err CutShort)) (Err Unknown)
 
 -- how many bytes a command has, with its command byte
 unfoldable pub entry_size : Entry → ℕ

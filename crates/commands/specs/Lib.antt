@@ -1,2 +1,3 @@
 pub mod Commands
 pub mod Sizes
+pub mod Kinds

@@ -1,7 +1,8 @@
 -- How large the operands of a command can be: less than 256 to the power of their width.
-use Rattle.std.specs.Prelude.{ℕ, ◌^◌, ◌≤◌, ◌<◌, List, get_or}
+use Rattle.std.specs.Prelude.{ℕ, ◌^◌, ◌≤◌, ◌<◌, Result, Ok, Err, List, get_or}
 use Rattle.commands.specs.declared.Command.{Command}
-use Rattle.commands.specs.declared.Command.TheVariants.{Enter, Act, Unknown, CutShort}
+use Rattle.commands.specs.declared.Command.TheVariants.{Enter, Act}
+use Rattle.commands.specs.declared.Stop.{Stop}
 use Rattle.commands.specs.declared.Entry.{Entry}
 use Rattle.commands.specs.declared.Entry.TheVariants.{Pool, Attachment, Hazard, Step, Coupon, Elapsed}
 use Rattle.commands.specs.declared.Order.{Order}
@@ -29,8 +30,7 @@ OrderSized (Value tranche count) = (tranche ≤ 255) × (count ≤ 255)
 OrderSized (Delta tranche count) = (tranche ≤ 255) × (count ≤ 255)
 OrderSized (Forward step count) = (step ≤ 65535) × (count ≤ 255)
 
-abbrev pub Sized : Command → Type 0
-Sized (Enter e) = EntrySized e
-Sized (Act o) = OrderSized o
-Sized Unknown = Unit {0}
-Sized CutShort = Unit {0}
+abbrev pub Sized : Result Command Stop → Type 0
+Sized (Ok (Enter e)) = EntrySized e
+Sized (Ok (Act o)) = OrderSized o
+Sized (Err stop) = Unit {0}

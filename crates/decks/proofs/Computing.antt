@@ -32,7 +32,7 @@ use Rattle.admission.specs.LentTests.{rows_bad, row_bad, off_walk, ten_tests, wa
 use Rattle.walk.specs.Calls.{open_tests, back_tests, value_tests, ratio_tests, forward_tests, or_outcome, or_forward_outcome, zeros, rolls, open_call, back_call, value_call, ratio_call, forward_call}
 use Rattle.figures.specs.Replies.{worth}
 use Rattle.lines.specs.Text.{decimal, signed, field}
-use Rattle.commands.specs.Commands.{low_first, operands, commands, decoded, command_at, entry_size, order_size}
+use Rattle.commands.specs.Commands.{low_first, operands, commands, command_at, entry_size, order_size}
 use Rattle.entries.specs.Draft.{fractions, has_room, added}
 use Rattle.machine.specs.Rooms.{open_in_rooms, back_in_rooms, value_in_rooms, ratio_in_rooms, forward_in_row, count_said, count_in_row, distribution_in_row}
 use Rattle.machine.specs.Transitions.{transition_of}
@@ -95,7 +95,7 @@ calls_computed = tt
 
 -- commands
 unfoldable commands_computed : Unit {0}
-unfolding low_first operands commands decoded command_at entry_size order_size
+unfolding low_first operands commands command_at entry_size order_size
 commands_computed = tt
 
 -- entries and orders

@@ -1,20 +1,15 @@
 -- Decks too long to be computed: those of many steps or elapsed fractions, and the longest.
-use Prim.Native.Nat.{ℕ, zero, suc, ◌+◌, ◌-◌, ◌*◌, ◌≤◌, ◌<◌}
-use mathlib.Core.Path.{◌≡◌, refl, sym, ap, ◌∙◌}
-use mathlib.Core.Bool.{Bool, true, false}
-use mathlib.Core.List.{List, [], ◌∷◌, ◌++◌, append_assoc, append-nil}
-use native.Mathlib.Nat.{add-zero, zero-add, suc-add}
-use native.Mathlib.Omega.{arith}
-use borrow.Author.Tests.{lt-ltb, le-ltb, le-leb}
-use lib.Dec.{leb, ltb, lit≤}
-use lib.ListN.{length, get_or, length-append}
-use lib.Seq.{get_or-append-add}
 use Rattle.commands.specs.declared.Command.{Command}
-use Rattle.commands.specs.declared.Command.TheVariants.{Enter, Act, Unknown, CutShort}
+use Rattle.commands.specs.declared.Command.TheVariants.{Enter, Act}
+use Rattle.commands.specs.declared.Stop.{Stop}
+use Rattle.commands.specs.declared.Stop.TheVariants.{Unknown, CutShort}
+use Rattle.std.proofs.Common.{ℕ, zero, suc, ◌+◌, ◌-◌, ◌*◌, ◌≤◌, ◌<◌, ◌≡◌, refl, sym, ap, ◌∙◌, Bool, true, List, [], ◌∷◌, ◌++◌, append_assoc}
+use Rattle.std.proofs.Common.{append-nil, add-zero, zero-add, suc-add, arith, lt-ltb, le-ltb, le-leb, leb, ltb, lit≤, length, get_or, length-append}
+use Rattle.std.proofs.Common.{get_or-append-add, Result, Ok, Err}
 use Rattle.commands.specs.declared.Entry.{Entry}
 use Rattle.commands.specs.declared.Entry.TheVariants.{Pool, Attachment, Hazard, Step, Coupon, Elapsed}
 use Rattle.commands.specs.declared.Order.TheVariants.{Issue, Withdraw, Open, Back, Value, Delta, Forward}
-use Rattle.commands.specs.Commands.{low_first, operands, commands, decoded, pick, is_command, command_at, entry_size, order_size}
+use Rattle.commands.specs.Commands.{low_first, operands, commands, pick, is_command, command_at, entry_size, order_size}
 use Rattle.register.specs.Events as Register
 use Rattle.register.specs.Register.{issue_answer}
 use Rattle.walk.specs.Answers.{said_by}
@@ -47,49 +42,49 @@ module _ (a s : List ℕ) where
       let by : (width d : ℕ) → low_first width (a ++ s) (j + d) ≡ low_first width s (i + d) =
       λ width d. low_behind width (i + d) (j + d) (omega arith) in
       λ t.
-      Unknown
-      ∷ Enter (Pool (at 1 t) (by 2 1 t) (by 1 3 t) (by 4 4 t) (by 1 8 t))
-      ∷ Enter (Attachment (at 4 t))
-      ∷ Enter (Hazard (at 4 t))
-      ∷ Enter (Step (at 4 t) (by 4 4 t))
-      ∷ Enter (Coupon (at 4 t))
-      ∷ Act (Issue (at 1 t))
-      ∷ Act (Withdraw (at 1 t))
-      ∷ Act Open
-      ∷ Act (Back (at 2 t))
-      ∷ Act (Value (at 1 t) (by 1 1 t))
-      ∷ Act (Delta (at 1 t) (by 1 1 t))
-      ∷ Act (Forward (at 2 t) (by 1 2 t))
-      ∷ Enter (Elapsed (at 4 t))
+      Err Unknown
+      ∷ Ok (Enter (Pool (at 1 t) (by 2 1 t) (by 1 3 t) (by 4 4 t) (by 1 8 t)))
+      ∷ Ok (Enter (Attachment (at 4 t)))
+      ∷ Ok (Enter (Hazard (at 4 t)))
+      ∷ Ok (Enter (Step (at 4 t) (by 4 4 t)))
+      ∷ Ok (Enter (Coupon (at 4 t)))
+      ∷ Ok (Act (Issue (at 1 t)))
+      ∷ Ok (Act (Withdraw (at 1 t)))
+      ∷ Ok (Act Open)
+      ∷ Ok (Act (Back (at 2 t)))
+      ∷ Ok (Act (Value (at 1 t) (by 1 1 t)))
+      ∷ Ok (Act (Delta (at 1 t) (by 1 1 t)))
+      ∷ Ok (Act (Forward (at 2 t) (by 1 2 t)))
+      ∷ Ok (Enter (Elapsed (at 4 t)))
       ∷ []
 
   command_behind : command_at (a ++ s) (length a) ≡ command_at s 0
-  unfolding command_at decoded
+  unfolding command_at
   command_behind =
       let code : get_or (a ++ s) (length a) 0 ≡ get_or s 0 0 = ap (λ (k : ℕ). get_or (a ++ s) k 0) (sym (add-zero (length a))) ∙ get_or-append-add a s 0 0 in
       let rest : length (a ++ s) - (length a + 1) ≡ length s - 1 = simp length-append (omega arith) in
       let them : commands (a ++ s) (length a + 1) ≡ commands s 1 = commands_behind 1 (length a + 1) refl in
-      λ t. pick (is_command (code t)) (pick (leb (operands (code t)) (rest t)) (get_or (them t) (code t) Unknown) CutShort) Unknown
+      λ t. pick (is_command (code t)) (pick (leb (operands (code t)) (rest t)) (get_or (them t) (code t) (Err Unknown)) (Err CutShort)) (Err Unknown)
 
 -- ---- a step, an elapsed fraction and an issue
 
-step_read : (s : List ℕ) → command_at (step ++ s) 0 ≡ Enter (Step 1_000_000_000 1)
-unfolding command_at operands decoded commands low_first
+step_read : (s : List ℕ) → command_at (step ++ s) 0 ≡ Ok (Enter (Step 1_000_000_000 1))
+unfolding command_at operands commands low_first
 step_read s =
     let whole : leb 8 (length (step ++ s) - 1) ≡ true = le-leb 8 (length (step ++ s) - 1) (omega arith) in
-    ap (λ (b : Bool). pick b (Enter (Step 1_000_000_000 1)) CutShort) whole
+    ap (λ (b : Bool). pick b (Ok (Enter (Step 1_000_000_000 1))) (Err CutShort)) whole
 
-fraction_read : (s : List ℕ) → command_at (fraction ++ s) 0 ≡ Enter (Elapsed 1)
-unfolding command_at operands decoded commands low_first
+fraction_read : (s : List ℕ) → command_at (fraction ++ s) 0 ≡ Ok (Enter (Elapsed 1))
+unfolding command_at operands commands low_first
 fraction_read s =
     let whole : leb 4 (length (fraction ++ s) - 1) ≡ true = le-leb 4 (length (fraction ++ s) - 1) (omega arith) in
-    ap (λ (b : Bool). pick b (Enter (Elapsed 1)) CutShort) whole
+    ap (λ (b : Bool). pick b (Ok (Enter (Elapsed 1))) (Err CutShort)) whole
 
-issue_read : command_at issue_seven 0 ≡ Act (Issue 7)
-unfolding command_at operands decoded commands low_first
+issue_read : command_at issue_seven 0 ≡ Ok (Act (Issue 7))
+unfolding command_at operands commands low_first
 issue_read = refl
 
-issue_on_lem : (at : ℕ) (s : Machine) → s.register ≡ Register.blank_register → effect_of (Act (Issue 7)) at s ≡ go_on issue_line (at + 2) (transition_of (Issue 7) s).next
+issue_on_lem : (at : ℕ) (s : Machine) → s.register ≡ Register.blank_register → effect_of (Ok (Act (Issue 7))) at s ≡ go_on issue_line (at + 2) (transition_of (Issue 7) s).next
 unfolding effect_of order_effect order_size transition_of printed
 issue_on_lem at s e = ap (λ (g : List ℕ). go_on (order_line (Issue 7) (said_by (issue_answer g 7))) (at + 2) (transition_of (Issue 7) s).next) e
 
@@ -102,7 +97,7 @@ length_times (suc n) c = simp length-append (omega (arith, length_times n c))
 
 record Counted (bytes : List ℕ) (entry : Entry) (held : Draft → ℕ) : Type 0 where
   some : 1 ≤ length bytes
-  read : (s : List ℕ) → command_at (bytes ++ s) 0 ≡ Enter entry
+  read : (s : List ℕ) → command_at (bytes ++ s) 0 ≡ Ok (Enter entry)
   size : entry_size entry ≡ length bytes
   room : (g : Draft) → has_room entry g ≡ ltb (held g) 3650
   more : (g : Draft) → held (added entry g) ≡ held g + 1
@@ -112,13 +107,13 @@ module _ {bytes : List ℕ} {entry : Entry} {held : Draft → ℕ} (c : Counted 
   abbrev entered : Machine → Machine
   entered s = with_draft s (added entry s.draft)
 
-  entry_on : (at : ℕ) (s : Machine) → held s.draft < 3650 → effect_of (Enter entry) at s ≡ go_on [] (at + length bytes) (entered s)
+  entry_on : (at : ℕ) (s : Machine) → held s.draft < 3650 → effect_of (Ok (Enter entry)) at s ≡ go_on [] (at + length bytes) (entered s)
   unfolding effect_of entry_effect
   entry_on at s h =
       let free : has_room entry s.draft ≡ true = c.room s.draft ∙ lt-ltb (held s.draft) 3650 h in
       rw (free, entry_effect) (ap (λ (k : ℕ). go_on [] (at + k) (entered s)) c.size)
 
-  entry_last : (at : ℕ) (s : Machine) → 3650 ≤ held s.draft → effect_of (Enter entry) at s ≡ stop (deck_line 20 at)
+  entry_last : (at : ℕ) (s : Machine) → 3650 ≤ held s.draft → effect_of (Ok (Enter entry)) at s ≡ stop (deck_line 20 at)
   unfolding effect_of
   entry_last at s h = full_effect entry at s (c.room s.draft ∙ le-ltb (held s.draft) 3650 h)
 
@@ -144,10 +139,10 @@ module _ {bytes : List ℕ} {entry : Entry} {held : Draft → ℕ} (c : Counted 
   after (suc n) commands_left deck a rest at s e p h =
       let split : deck ≡ a ++ (bytes ++ (times n bytes ++ rest)) = e ∙ ap (λ (l : List ℕ). a ++ l) (append_assoc bytes (times n bytes) rest) in
       let long : length deck ≡ length a + (length bytes + length (times n bytes ++ rest)) = ap length split ∙ simp length-append (omega arith) in
-      let reads : command_at deck at ≡ Enter entry =
+      let reads : command_at deck at ≡ Ok (Enter entry) =
       (λ j. command_at (split j) (p j)) ∙ command_behind a (bytes ++ (times n bytes ++ rest)) ∙ c.read (times n bytes ++ rest) in
       let goes : effect_of (command_at deck at) at s ≡ go_on [] (at + length bytes) (entered s) =
-      ap (λ (k : Command). effect_of k at s) reads ∙ entry_on at s (omega arith) in
+      ap (λ (k : Result Command Stop). effect_of k at s) reads ∙ entry_on at s (omega arith) in
       let one : listing_from (suc (n + commands_left)) deck at s ≡ listing_from (n + commands_left) deck (at + length bytes) (entered s) =
       on deck at s (n + commands_left) [] (at + length bytes) (entered s) (omega (arith, c.some)) goes in
       let more = c.more s.draft in
@@ -211,7 +206,7 @@ module _ {bytes : List ℕ} {entry : Entry} {held : Draft → ℕ} (c : Counted 
       let size = long n few issue_seven in
       let less : ℕ = left n few issue_seven - 1 in
       let goes : effect_of (command_at d at) at s ≡ go_on issue_line (at + 2) t =
-      ap (λ (k : Command). effect_of k at s) (read_there n few issue_seven ∙ issue_read) ∙ issue_on_lem at s (full n few issue_seven).register in
+      ap (λ (k : Result Command Stop). effect_of k at s) (read_there n few issue_seven ∙ issue_read) ∙ issue_on_lem at s (full n few issue_seven).register in
       let commands_left : left n few issue_seven ≡ suc less = omega (arith, size, many_long n) in
       from_there n few issue_seven (omega (arith, size))
       ∙ ap (λ (k : ℕ). listing_from k d at s) commands_left
@@ -227,7 +222,7 @@ module _ {bytes : List ℕ} {entry : Entry} {held : Draft → ℕ} (c : Counted 
       let size = long 3650 few bytes in
       let less : ℕ = left 3650 few bytes - 1 in
       let goes : effect_of (command_at d at) at s ≡ stop (deck_line 20 at) =
-      ap (λ (k : Command). effect_of k at s) (read_there 3650 few bytes ∙ ap (λ (l : List ℕ). command_at l 0) (sym (append-nil bytes)) ∙ c.read [])
+      ap (λ (k : Result Command Stop). effect_of k at s) (read_there 3650 few bytes ∙ ap (λ (l : List ℕ). command_at l 0) (sym (append-nil bytes)) ∙ c.read [])
       ∙ entry_last at s (omega (arith, (full 3650 few bytes).holds)) in
       let commands_left : left 3650 few bytes ≡ suc less = omega (arith, size, many_long 3650, c.some) in
       from_there 3650 few bytes (omega (arith, size))

@@ -1,6 +1,5 @@
 -- What decks print, by computation; of the longest by laws.
-use mathlib.Core.Path.{refl, sym}
-use native.Mathlib.Omega.{arith}
+use Rattle.std.proofs.Common.{refl, sym, arith}
 use Rattle.listings.proofs.Laws as Laws
 use Rattle.decks.specs.Registers.{RegistersLeft, RunsCut, RunsCounted}
 use Rattle.decks.specs.Printed.{CallListings, OpenListings, ElapsedOpenListings, ElapsedListings, RatioListings, FullListings, LongListings, DeckListings}

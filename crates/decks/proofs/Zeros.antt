@@ -1,5 +1,5 @@
 -- By computation.
-use mathlib.Core.Path.{refl}
+use Rattle.std.proofs.Common.{refl}
 use Rattle.listings.specs.DatesOnly.{enters_zeros_from}
 use Rattle.decks.specs.Zeros.{ZerosEntered}
 use Rattle.decks.proofs.Computing.{computed}

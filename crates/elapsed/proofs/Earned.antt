@@ -1,22 +1,15 @@
 -- Laws of what a default pays of the premium earned up to it.
-use Prim.Native.Nat.{ℕ, suc, ◌+◌, ◌-◌, ◌*◌, ◌<◌}
-use mathlib.Core.Path.{◌≡◌, refl, ap, sym, ◌∙◌}
-use mathlib.Core.Bool.{Bool, true, false, cond}
-use mathlib.Core.List.{List}
+use Rattle.std.proofs.Common.{ℕ, suc, ◌+◌, ◌-◌, ◌*◌, ◌≤◌, ◌<◌, ◌≡◌, refl, ap, sym, ◌∙◌, Bool, true, false, cond, List, zero-mul, add-one, arith}
+use Rattle.std.proofs.Common.{length, get_or, ltb, lt-ltb, le-ltb}
 use native.Mathlib.Decide.{dec_lt}
-use native.Mathlib.Nat.{zero-mul}
-use native.Mathlib.Numerals.{add-one}
-use native.Mathlib.Omega.{arith}
-use lib.ListN.{length, get_or}
-use lib.Dec.{ltb}
-use borrow.Author.Tests.{lt-ltb, le-ltb}
+use Rattle.std.specs.Fork.{slice_chunk}
 use Rattle.cash.specs.Units.{B, half}
 use Rattle.cash.specs.Losses.{elapsed_payment}
 use Rattle.rows.specs.Tables.{tab, entry, grid}
 use Rattle.rows.specs.Kernels.{earned_at, earned_in, Falling, FallingRows}
-use Rattle.rows.proofs.Tables.{get_d_tab, length_tab, is_grid}
-use Rattle.rows.proofs.Sweep.{put}
-use Rattle.rows.proofs.Parts.{part, read_long, read_entry, Passed, passed_more}
+use Rattle.rows.proofs.Tables.{get_d_tab, length_tab, is_tab, is_grid}
+use Rattle.rows.proofs.Parts.{room}
+use Rattle.rows.proofs.Chunks.{chunk_long, chunk_entry}
 
 -- ---- by count
 
@@ -52,32 +45,29 @@ pub none_earned : (r names : ℕ) (table outs : List ℕ) → length table ≡ r
 unfolding entry
 none_earned r names table outs long zeros = is_grid table r (suc names) _ (omega arith) long (λ j k h q. zeros (j * suc names + k) ∙ sym (none_paid names outs j k))
 
--- tranche j starts at a and is m long
-module _ {r n : ℕ} {outs : List ℕ} (falling : FallingRows r n outs) {j a : ℕ} (inside : j < r) (a_is : a ≡ j * suc n) (m : ℕ) (m_is : m ≡ suc n) where
-  here : (k : ℕ) → k < suc n → get_or (part a m outs) k 0 ≡ entry (suc n) outs j k
-  here = read_entry r (suc n) outs falling.long j a m inside a_is m_is
+-- tranche j, of rows of w entries
+module _ {r n : ℕ} {outs : List ℕ} (falling : FallingRows r n outs) (j w : ℕ) (inside : j < r) (w_is : w ≡ suc n) where
+  here : (k : ℕ) → k < suc n → get_or (slice_chunk outs w j) k 0 ≡ entry (suc n) outs j k
+  here k h = ap (λ (m : ℕ). get_or (slice_chunk outs m j) k 0) w_is ∙ chunk_entry outs (suc n) j k h
 
-  pub tranche_falls : Falling n (part a m outs)
+  pub outs_there : j * w + w ≤ length outs
+  outs_there = rw w_is (omega (arith, room j r (suc n) inside, falling.long))
+
+  pub tranche_falls : Falling n (slice_chunk outs w j)
   tranche_falls =
       record {
-        long = read_long r (suc n) outs falling.long j a m inside a_is m_is;
+        long = ap (λ (m : ℕ). length (slice_chunk outs m j)) w_is ∙ chunk_long outs r (suc n) j falling.long inside;
         most = λ k h. rw (here k (omega arith)) (falling.most j k inside h);
         falls = λ k h. rw (here k (omega arith), here (suc k) (omega arith)) (falling.falls j k inside h);
       }
 
-  pub tranche_earned : (fraction k : ℕ) → k < suc n → earned_at n fraction (part a m outs) k ≡ earned_in n fraction outs j k
+  earned_here : (fraction k : ℕ) → k < suc n → earned_at n fraction (slice_chunk outs w j) k ≡ earned_in n fraction outs j k
   unfolding earned_at earned_in
-  tranche_earned fraction k h = go (dec_lt k n)
+  earned_here fraction k h = go (dec_lt k n)
     where
-      go : Dec (k < n) → earned_at n fraction (part a m outs) k ≡ earned_in n fraction outs j k
+      go : Dec (k < n) → earned_at n fraction (slice_chunk outs w j) k ≡ earned_in n fraction outs j k
       go (yes q) = rw (lt-ltb k n q) (λ t. elapsed_payment fraction (here k h t) (here (suc k) (omega arith) t))
       go (no q) = rw (le-ltb k n (omega arith)) refl
 
--- it has come back filled
-pub tranche_filled : {r n : ℕ} {outs xs ys : List ℕ} {j a : ℕ} (fraction : ℕ) → FallingRows r n outs → (p : Passed r (suc n) (earned_in n fraction outs) xs ys j a) →
-    length xs ≡ r * suc n → j < r → (m e : ℕ) (zs : List ℕ) → m ≡ suc n → e ≡ a + suc n → zs ≡ tab (suc n) (earned_at n fraction (part a m outs)) →
-    Passed r (suc n) (earned_in n fraction outs) xs (put a m ys zs) (j + 1) e
-tranche_filled fraction falling p long inside m e zs m_is e_is q =
-    passed_more p long inside m e zs m_is e_is
-    (ap length q ∙ length_tab _ _)
-    (λ k h. ap (λ (l : List ℕ). get_or l k 0) q ∙ get_d_tab _ _ k h ∙ tranche_earned falling inside p.start m m_is fraction k h)
+  pub tranche_earned : (fraction : ℕ) → tab (suc n) (earned_at n fraction (slice_chunk outs w j)) ≡ tab (suc n) (earned_in n fraction outs j)
+  tranche_earned fraction = is_tab _ (suc n) _ (length_tab _ _) (λ k h. get_d_tab _ _ k h ∙ earned_here fraction k h)

@@ -2,44 +2,23 @@
 
 #![tactic(auto)]
 
-ghost use Rattle.std.specs.Prelude.{◌≡◌, suc, ◌*◌, ◌≤◌, length};
+ghost use Rattle.std.specs.Prelude.{◌≡◌, suc, ◌+◌, ◌*◌, ◌≤◌, length};
+ghost use Rattle.std.specs.Fork.{slice_chunk};
 ghost use Rattle.cash.specs.Units.{B};
 ghost use Rattle.rows.specs.Tables.{tab, grid};
 ghost use Rattle.rows.specs.Kernels.{earned_at, earned_in, Falling, FallingRows};
+
+use rows::table::fill_rows;
 
 // What a default pays of one tranche's premium, by the count before it: 0 at the last count, from which none comes.
 fn earned_row(names: usize, fraction: u64, outstandings: &[u64], row: &mut [u64])
     requires { (fraction ≤ B) × Falling names outstandings.now × (length row.old ≡ suc names) }
     ensures { row.new ≡ tab (suc names) (earned_at names fraction outstandings.now) }
 {
-    let mut k = 0;
-    while k < names {
+    for k in 0..names {
         row[k] = cash::elapsed_payment(fraction, outstandings[k], outstandings[k + 1]);
-        k += 1;
     }
     row[names] = 0;
-}
-
-// The same for every tranche and the index.
-fn earned_rows(
-    names: usize,
-    tranches: usize,
-    fraction: u64,
-    outstandings: &[u64],
-    table: &mut [u64],
-)
-    requires { (fraction ≤ B) × FallingRows (suc tranches) names outstandings.now × (length table.old ≡ suc tranches * suc names) }
-    ensures { table.new
-        ≡ grid (suc tranches) (suc names) (earned_in names fraction outstandings.now) }
-{
-    let mut j = 0;
-    let mut a = 0;
-    while j <= tranches {
-        let e = a + names + 1;
-        earned_row(names, fraction, &outstandings[a..e], &mut table[a..e]);
-        a = e;
-        j += 1;
-    }
 }
 
 // Fills the table for a fraction, where it holds that of `held`: most steps have the fraction of the step after them, 0.
@@ -56,8 +35,24 @@ pub fn earn(
     ensures { table.new
         ≡ grid (suc tranches) (suc names) (earned_in names fraction outstandings.now) }
 {
-    if fraction == held {
-        return;
+    if fraction != held {
+        let width = names + 1;
+        fill_rows(
+            names,
+            tranches,
+            table,
+            |j: usize, row: &mut [u64]|
+                requires { (j * width + width ≤ length outstandings.now) × (fraction ≤ B)
+                    × Falling names (slice_chunk outstandings.now width j) × (length row.now ≡ suc names) }
+                ensures { row.exit.now ≡ tab (suc names) (earned_at names fraction (slice_chunk outstandings.entry.now width j)) }
+            {
+                earned_row(
+                    names,
+                    fraction,
+                    &outstandings[j * width..j * width + width],
+                    row,
+                )
+            },
+        );
     }
-    earned_rows(names, tranches, fraction, outstandings, table);
 }

@@ -1,13 +1,7 @@
 -- A number stored behind a list: its list has it at the end, the lists beside it stay.
-use Prim.Native.Nat.{ℕ, ◌+◌, ◌-◌, ◌≤◌, ◌<◌}
-use mathlib.Core.Path.{◌≡◌, sym, ap, ◌∙◌}
-use mathlib.Core.Bool.{cond}
-use mathlib.Core.List.{List, [], ◌∷◌, ◌++◌}
-use native.Mathlib.Numerals.{add-one}
-use native.Mathlib.Omega.{arith}
-use lib.ListN.{length, take, drop, set, length-drop, length-set}
-use lib.Dec.{leb}
-use lib.Seq.{take-suc-set, take-set-le, drop-set-lt, drop-set-add}
+use Rattle.std.proofs.Common.{ℕ, ◌+◌, ◌-◌, ◌≤◌, ◌<◌, ◌≡◌, sym, ap, ◌∙◌, cond, List, [], ◌∷◌, ◌++◌, add-one, arith, length, take, drop, set}
+use Rattle.std.proofs.Common.{length-drop, length-set, leb, take-suc-set, drop-set-lt}
+use lib.Seq.{take-set-le, drop-set-add}
 use Rattle.sheet.specs.declared.Span.{Span}
 use Rattle.sheet.specs.Spans.{list_in}
 use Rattle.sheet.proofs.Spans.{list_within}

@@ -1,10 +1,7 @@
 -- The places of the elapsed fractions: zeros until one is entered.
-use Prim.Native.Nat.{ℕ, zero, suc, ◌+◌, ◌≤◌, ◌<◌, min}
-use mathlib.Core.Path.{◌≡◌, refl, sym, ap, ◌∙◌}
-use mathlib.Core.List.{List, [], ◌∷◌}
-use native.Mathlib.Omega.{arith}
-use lib.ListN.{length, drop, get_or, set, replicate, length-replicate, get_or-replicate}
-use lib.Seq.{get_or-set_other, get_or-take, get_or-drop, ext_get_or}
+use Rattle.std.proofs.Common.{ℕ, zero, suc, ◌+◌, ◌≤◌, ◌<◌, min, ◌≡◌, refl, sym, ap, ◌∙◌, List, [], ◌∷◌, arith, length, drop, get_or, set, replicate}
+use Rattle.std.proofs.Common.{get_or-set_other, get_or-take, get_or-drop, ext_get_or}
+use lib.ListN.{length-replicate, get_or-replicate}
 use Rattle.sheet.specs.declared.Span.{Span}
 use Rattle.sheet.specs.Spans.{list_in, Within}
 use Rattle.sheet.proofs.Spans.{list_within, list_long}

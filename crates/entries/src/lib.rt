@@ -29,6 +29,7 @@ pub const NUMBERS: usize = ELAPSED + STEPS_MOST;
 
 // Whether there was a pool command, how many elapsed fractions were entered, and the sheet so far.
 // The starts of its spans stay, and their lengths grow.
+// No `Option<Pool>` for `pooled`: the calls are lent the sheet as C knows it, where a pool stands in any case.
 #[derive(Clone, Copy)]
 pub struct Layout {
     pub pooled: bool,
@@ -86,37 +87,26 @@ pub fn has_room(entry: Entry, layout: Layout) -> bool
 {
     let sheet = layout.sheet;
     match entry {
-        Entry::Pool {
-            names: _,
-            steps: _,
-            tranches: _,
-            recovery: _,
-            number: _,
-        } => !layout.pooled,
+        Entry::Pool { .. } => !layout.pooled,
         Entry::Attachment(_) => sheet.attachments.length < POINTS_MOST,
         Entry::Hazard(_) => sheet.hazards.length < NAMES_MOST,
-        Entry::Step {
-            discount: _,
-            accrual: _,
-        } => sheet.discounts.length < STEPS_MOST,
+        Entry::Step { .. } => sheet.discounts.length < STEPS_MOST,
         Entry::Coupon(_) => sheet.coupons.length < POINTS_MOST,
         Entry::Elapsed(_) => layout.entered < STEPS_MOST,
     }
 }
 
 // Stores a number behind a list, and answers the longer span.
+#[tactic(auto, unfolding(crate::specs::Layouts::stored))]
 fn append(span: Span, numbers: &mut [u64], number: u64) -> Span
     requires { span.at + span.length < length numbers.old }
     ensures longer { result ≡ longer span }
     ensures stores { numbers.new ≡ stored span number numbers.old }
 {
-    let at = span.at;
-    let length = span.length;
-    let end = at + length;
-    numbers[end] = number;
+    numbers[span.at + span.length] = number;
     Span {
-        at,
-        length: length + 1,
+        length: span.length + 1,
+        ..span
     }
 }
 
@@ -124,21 +114,11 @@ fn append(span: Span, numbers: &mut [u64], number: u64) -> Span
 fn brought_span(entered: usize, steps: usize) -> Span
     ensures { result ≡ brought_span entered steps }
 {
-    if entered != 0 {
-        return Span {
-            at: ELAPSED,
-            length: entered,
-        };
-    }
-    if STEPS_MOST < steps {
-        return Span {
-            at: ELAPSED,
-            length: STEPS_MOST,
-        };
-    }
+    let zeros = steps.min(STEPS_MOST);
+    let length = if entered == 0 { zeros } else { entered };
     Span {
         at: ELAPSED,
-        length: steps,
+        length,
     }
 }
 
@@ -153,8 +133,6 @@ fn add_pool(
 ) -> Layout
     ensures { (s : List ℕ) → LayoutLimits layout s → Leaves (Entry.Pool names steps tranches recovery number) layout s result s }
 {
-    let mut next = layout;
-    let mut sheet = layout.sheet;
     let pool = Pool {
         names,
         steps,
@@ -163,90 +141,86 @@ fn add_pool(
         number,
     };
     let elapsed = brought_span(layout.entered, steps);
-    sheet.pool = pool;
-    sheet.elapsed = elapsed;
-    next.pooled = true;
-    next.sheet = sheet;
-    next
+    Layout {
+        pooled: true,
+        sheet: Sheet {
+            pool,
+            elapsed,
+            ..layout.sheet
+        },
+        ..layout
+    }
 }
 
 // Adds a step: a discount and an accrual.
 fn add_step(layout: Layout, numbers: &mut [u64], discount: u64, accrual: u64) -> Layout
     requires layout_limits { LayoutLimits layout numbers.old }
-    requires numbers_value { has_room (Entry.Step discount accrual) (draft_in layout numbers.old) ≡ true }
+    requires free { has_room (Entry.Step discount accrual) (draft_in layout numbers.old) ≡ true }
     ensures { Leaves (Entry.Step discount accrual) layout numbers.old result numbers.new }
 {
-    let mut next = layout;
-    let mut sheet = layout.sheet;
-    let discounts = append(sheet.discounts, numbers, discount);
-    let accruals = append(sheet.accruals, numbers, accrual);
-    sheet.discounts = discounts;
-    sheet.accruals = accruals;
-    next.sheet = sheet;
-    next
+    let discounts = append(layout.sheet.discounts, numbers, discount);
+    let accruals = append(layout.sheet.accruals, numbers, accrual);
+    Layout {
+        sheet: Sheet {
+            discounts,
+            accruals,
+            ..layout.sheet
+        },
+        ..layout
+    }
 }
 
 // Adds an elapsed fraction: a call brings those entered from now on.
 fn add_elapsed(layout: Layout, numbers: &mut [u64], fraction: u64) -> Layout
     requires layout_limits { LayoutLimits layout numbers.old }
-    requires numbers_value { has_room (Entry.Elapsed fraction) (draft_in layout numbers.old) ≡ true }
+    requires free { has_room (Entry.Elapsed fraction) (draft_in layout numbers.old) ≡ true }
     ensures { Leaves (Entry.Elapsed fraction) layout numbers.old result numbers.new }
 {
-    let mut next = layout;
-    let mut sheet = layout.sheet;
     let entered = Span {
         at: ELAPSED,
         length: layout.entered,
     };
     let elapsed = append(entered, numbers, fraction);
-    sheet.elapsed = elapsed;
-    next.entered = elapsed.length;
-    next.sheet = sheet;
-    next
+    Layout {
+        entered: elapsed.length,
+        sheet: Sheet {
+            elapsed,
+            ..layout.sheet
+        },
+        ..layout
+    }
 }
 
 // Adds an entry for which there is room.
 pub fn add(entry: Entry, layout: Layout, numbers: &mut [u64]) -> Layout
     requires layout_limits { LayoutLimits layout numbers.old }
-    requires numbers_value { has_room entry (draft_in layout numbers.old) ≡ true }
+    requires free { has_room entry (draft_in layout numbers.old) ≡ true }
     ensures limits { LayoutLimits result numbers.new }
     ensures adds { draft_in result numbers.new ≡ added entry (draft_in layout numbers.old) }
 {
-    let mut next = layout;
-    let mut sheet = layout.sheet;
-    match entry {
+    let sheet = layout.sheet;
+    let sheet = match entry {
         Entry::Pool {
             names,
             steps,
             tranches,
             recovery,
             number,
-        } => {
-            return add_pool(layout, names, steps, tranches, recovery, number);
-        }
-        Entry::Attachment(point) => {
-            let attachments = append(sheet.attachments, numbers, point);
-            sheet.attachments = attachments;
-            next.sheet = sheet;
-            return next;
-        }
-        Entry::Hazard(hazard) => {
-            let hazards = append(sheet.hazards, numbers, hazard);
-            sheet.hazards = hazards;
-            next.sheet = sheet;
-            return next;
-        }
-        Entry::Step { discount, accrual } => {
-            return add_step(layout, numbers, discount, accrual);
-        }
-        Entry::Coupon(coupon) => {
-            let coupons = append(sheet.coupons, numbers, coupon);
-            sheet.coupons = coupons;
-            next.sheet = sheet;
-            return next;
-        }
-        Entry::Elapsed(fraction) => {
-            return add_elapsed(layout, numbers, fraction);
-        }
-    }
+        } => return add_pool(layout, names, steps, tranches, recovery, number),
+        Entry::Step { discount, accrual } => return add_step(layout, numbers, discount, accrual),
+        Entry::Elapsed(fraction) => return add_elapsed(layout, numbers, fraction),
+        Entry::Attachment(point) => Sheet {
+            attachments: append(sheet.attachments, numbers, point),
+            ..sheet
+        },
+        Entry::Hazard(hazard) => Sheet {
+            hazards: append(sheet.hazards, numbers, hazard),
+            ..sheet
+        },
+        Entry::Coupon(coupon) => Sheet {
+            coupons: append(sheet.coupons, numbers, coupon),
+            ..sheet
+        },
+    };
+    Layout { sheet, ..layout }
 }

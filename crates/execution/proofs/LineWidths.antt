@@ -1,21 +1,13 @@
 -- How long the line of an order can be.
-use Prim.Native.Nat.{ℕ, ◌+◌, ◌*◌, ◌≤◌}
-use mathlib.Core.Path.{◌≡◌, refl, subst}
-use mathlib.Core.Bool.{Bool, true, false}
-use mathlib.Core.List.{List}
-use native.Mathlib.Omega.{arith}
-use borrow.Author.Tests.{ltb-true, ltb-false}
-use lib.Dec.{ltb, lit≤}
-use lib.ListN.{length}
+use Rattle.std.proofs.Common.{ℕ, ◌+◌, ◌*◌, ◌≤◌, ◌≡◌, refl, subst, Bool, true, false, List, arith, ltb-true, ltb-false, ltb, lit≤, length}
+use Rattle.refusals.specs.declared.Refusal.{Refusal}
+use Rattle.std.specs.Prelude.{Result, Ok, Err, ⊤}
 use Rattle.commands.specs.declared.Order.{Order}
 use Rattle.commands.specs.declared.Order.TheVariants.{Issue, Withdraw, Open, Back, Value, Delta, Forward}
 use Rattle.commands.specs.Commands.{order_size}
-use Rattle.refusals.specs.declared.Found.{Found}
-use Rattle.refusals.specs.declared.Found.TheVariants as Found
 use Rattle.sheet.specs.Brought.{Brought}
 use Rattle.refusals.specs.Tests.{first}
-use Rattle.figures.specs.declared.Answer.{Answer}
-use Rattle.figures.specs.declared.Answer.TheVariants.{Refused, Done, Position, Worth, Ratio}
+use Rattle.figures.specs.Answer.{Answer, Refused, Done, Position, Worth, Ratio}
 use Rattle.walk.specs.declared.Walk.{Walk}
 use Rattle.rows.specs.Rows.{Rows}
 use Rattle.walk.specs.Answers.{Said, said_of}
@@ -47,10 +39,10 @@ count_few (Worth d p w) row n k = lit≤ tt
 count_few (Ratio z) row n k = lit≤ tt
 
 -- open says none
-open_by_lem : (f : Found) (w v : Walk) (l m : Rows) → length (said_of (or_outcome f w l (record { answer = Done; walk = v; rows = m })).answer).values ≡ 0
+open_by_lem : (f : Result ⊤ Refusal) (w v : Walk) (l m : Rows) → length (said_of (or_outcome f w l (record { answer = Done; walk = v; rows = m })).answer).values ≡ 0
 unfolding or_outcome
-open_by_lem Found.Fine w v l m = refl
-open_by_lem (Found.Refused f) w v l m = refl
+open_by_lem (Ok tt) w v l m = refl
+open_by_lem (Err f) w v l m = refl
 
 open_none : (x : Brought) (register : List ℕ) (w : Walk) (l : Rows) → length (said_of (open_call x register w l).answer).values ≡ 0
 unfolding open_call

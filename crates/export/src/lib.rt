@@ -4,8 +4,7 @@
 #![tactic(auto)]
 
 ghost use Rattle.std.specs.Prelude.{◌≡◌, ◌<◌, length, get_or};
-ghost use Rattle.deck.specs.declared.Ran.TheVariants.{NoRoom};
-ghost use Rattle.deck.specs.Printing.{room, printing, printing_on, register_left};
+ghost use Rattle.deck.specs.Printing.{room, none, printing, printing_on, register_left};
 ghost use Rattle.register.specs.Register.{issue_answer, issue_leaves, withdraw_answer, withdraw_leaves};
 ghost use Rattle.sheet.specs.Spans.{brought_in};
 ghost use Rattle.walk.specs.Answers.{said_of, said_by};
@@ -17,7 +16,6 @@ ghost use Rattle.fairness.specs.Promise.{ours as our_turns};
 ghost use Rattle.export.specs.Bytes.{bytes_in};
 ghost use Rattle.returns.specs.Returns.{opened, moved, valued, hedged, returned};
 
-use deck::Ran;
 use returns::{Allotted, Booked, Hedged, Moved, Opened, Unpacked, Valued};
 use sheet::Sheet;
 use turns::Turn;
@@ -47,7 +45,7 @@ pub extern "C" fn lavroudem_issue(register: &mut [u8], number: u8) -> u8
     ensures said { result ≡ (said_by (issue_answer register.old number)).number }
     ensures leaves { register.new ≡ issue_leaves register.old number }
 {
-    register::number_of(issuing::issue(register, number))
+    issuing::issue(register, number).err().map_or(0, u8::from)
 }
 
 // Ends a live number for good.
@@ -56,7 +54,9 @@ pub extern "C" fn lavroudem_withdraw(register: &mut [u8], number: u8) -> u8
     ensures said { result ≡ (said_by (withdraw_answer register.old number)).number }
     ensures leaves { register.new ≡ withdraw_leaves register.old number }
 {
-    register::number_of(issuing::withdraw(register, number))
+    issuing::withdraw(register, number)
+        .err()
+        .map_or(0, u8::from)
 }
 
 // Starts a walk at the last step, with both rows zero.
@@ -73,13 +73,8 @@ pub extern "C" fn lavroudem_open(
         ≡ returned 0 (open_call (brought_in sheet numbers.now) register.now walk
         (rows_of defaults.old premiums.old)) }
 {
-    let reply = walk.open(sheet, numbers, register, defaults, premiums);
-    let answer = reply.answer;
-    let left = reply.walk;
-    Opened {
-        number: returns::number_in(answer),
-        walk: left,
-    }
+    walk.open(sheet, numbers, register, defaults, premiums)
+        .into()
 }
 
 // Takes both rows count steps back.
@@ -97,14 +92,8 @@ pub extern "C" fn lavroudem_back(
         ≡ returned 1 (back_call (brought_in sheet numbers.now) register.now walk
         (rows_of defaults.old premiums.old) count) }
 {
-    let reply = walk.back(sheet, numbers, register, defaults, premiums, count);
-    let answer = reply.answer;
-    let left = reply.walk;
-    Moved {
-        number: returns::number_in(answer),
-        position: returns::position_in(answer),
-        walk: left,
-    }
+    walk.back(sheet, numbers, register, defaults, premiums, count)
+        .into()
 }
 
 // D, A and W of a tranche at a count. Tranche r is the index.
@@ -123,16 +112,8 @@ pub extern "C" fn lavroudem_value(
         ≡ returned 3 (value_call (brought_in sheet numbers.now) register.now walk
         (rows_of defaults.now premiums.now) tranche count) }
 {
-    let reply = walk.value(sheet, numbers, register, defaults, premiums, tranche, count);
-    let answer = reply.answer;
-    let left = reply.walk;
-    Valued {
-        number: returns::number_in(answer),
-        default: returns::default_in(answer),
-        premium: returns::premium_in(answer),
-        net: returns::net_in(answer),
-        walk: left,
-    }
+    walk.value(sheet, numbers, register, defaults, premiums, tranche, count)
+        .into()
 }
 
 // The ratio of a tranche's jump to the index's at a count, in millionths.
@@ -151,14 +132,8 @@ pub extern "C" fn lavroudem_hedge_ratio(
         ≡ returned 1 (ratio_call (brought_in sheet numbers.now) register.now walk
         (rows_of defaults.now premiums.now) tranche count) }
 {
-    let reply = walk.hedge_ratio(sheet, numbers, register, defaults, premiums, tranche, count);
-    let answer = reply.answer;
-    let left = reply.walk;
-    Hedged {
-        number: returns::number_in(answer),
-        ratio: returns::ratio_in(answer),
-        walk: left,
-    }
+    walk.hedge_ratio(sheet, numbers, register, defaults, premiums, tranche, count)
+        .into()
 }
 
 // The distribution of the default count after so many steps, from no default. It has no walk, and answers the number alone.
@@ -175,7 +150,7 @@ pub extern "C" fn lavroudem_forward(
     ensures leaves { row.new
         ≡ (forward_call (brought_in sheet numbers.now) register.now row.old steps).row }
 {
-    returns::number_in(walk::forward(sheet, numbers, register, row, steps))
+    returns::number_in(&walk::forward(sheet, numbers, register, row, steps))
 }
 
 // The coupon of a packed image.
@@ -184,10 +159,12 @@ pub extern "C" fn lavroudem_read_packed(image: &[u8]) -> Unpacked
     ensures said { result.number ≡ (ours.read image.now).number }
     ensures told { result.coupon ≡ get_or (ours.read image.now).values 0 0 }
 {
-    let reading = packed::read(image);
-    Unpacked {
-        number: packed::reading_number(reading),
-        coupon: packed::coupon_in(reading),
+    match packed::read(image) {
+        Ok(coupon) => Unpacked { number: 0, coupon },
+        Err(refusal) => Unpacked {
+            number: refusal.into(),
+            coupon: 0,
+        },
     }
 }
 
@@ -197,7 +174,10 @@ pub extern "C" fn lavroudem_write_packed(image: &mut [u8], coupon: u64) -> u8
     ensures said { result ≡ (ours.write image.old coupon).number }
     ensures leaves { image.new ≡ (ours.write image.old coupon).left }
 {
-    packed::writing_number(packed::write(image, coupon))
+    match packed::write(image, coupon) {
+        Ok(()) => 0,
+        Err(refusal) => refusal.into(),
+    }
 }
 
 // Writes the exact totals of a book, in one line, at the start of what is lent.
@@ -207,10 +187,12 @@ pub extern "C" fn lavroudem_book(nominals: &[i64], values: &[i64], out: &mut [u8
     ensures told { result.length ≡ get_or (our_book nominals.now values.now out.old).values 0 0 }
     ensures leaves { out.new ≡ (our_book nominals.now values.now out.old).left }
 {
-    let report = book::total(nominals, values, out);
-    Booked {
-        number: book::report_number(report),
-        length: book::bytes_in(report),
+    match book::total(nominals, values, out) {
+        Ok(length) => Booked { number: 0, length },
+        Err(refusal) => Booked {
+            number: refusal.into(),
+            length: 0,
+        },
     }
 }
 
@@ -235,25 +217,15 @@ pub extern "C" fn lavroudem_deck_room(bytes: usize) -> usize
     deck::room(bytes)
 }
 
-// The bytes that a deck printed, or the highest number where there was no room.
-fn bytes_in(ran: Ran) -> usize
-    ensures { result ≡ bytes_in ran }
-{
-    match ran {
-        Ran::Printed(bytes) => bytes,
-        Ran::NoRoom => 0xFFFF_FFFF_FFFF_FFFF,
-    }
-}
-
 // Prints the listing of a deck at the start of out, and answers its bytes; or 2^64 - 1, where out is shorter than the deck's room and nothing is
 // written.
 #[unsafe(no_mangle)]
 pub extern "C" fn lavroudem_run_deck(deck: &[u8], out: &mut [u8]) -> usize
     ensures said { result ≡ bytes_in (printing deck.now out.old).answer }
     ensures leaves { out.new ≡ (printing deck.now out.old).out }
-    ensures apart { result ≡ bytes_in NoRoom → length out.old < room (length deck.now) }
+    ensures apart { result ≡ bytes_in none → length out.old < room (length deck.now) }
 {
-    bytes_in(deck::run(deck, out))
+    deck::run(deck, out).unwrap_or(usize::MAX)
 }
 
 // The same on a register that is lent, of any length: it is left as the deck's issues and withdrawals leave it, and as it was where there is no room.
@@ -262,7 +234,7 @@ pub extern "C" fn lavroudem_run_on(deck: &[u8], register: &mut [u8], out: &mut [
     ensures said { result ≡ bytes_in (printing_on register.old deck.now out.old).answer }
     ensures prints { out.new ≡ (printing_on register.old deck.now out.old).out }
     ensures leaves { register.new ≡ register_left register.old deck.now out.old }
-    ensures apart { result ≡ bytes_in NoRoom → length out.old < room (length deck.now) }
+    ensures apart { result ≡ bytes_in none → length out.old < room (length deck.now) }
 {
-    bytes_in(deck::run_on(deck, register, out))
+    deck::run_on(deck, register, out).unwrap_or(usize::MAX)
 }

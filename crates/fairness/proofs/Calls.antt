@@ -1,12 +1,6 @@
 -- Over every list of calls our call takes one step off for each turn, and is fair.
-use Prim.Native.Nat.{ℕ, suc, ◌+◌, ◌<◌}
-use mathlib.Core.Path.{◌≡◌, refl, sym, ap, ◌∙◌}
-use mathlib.Core.Logic.{◌≢◌}
-use mathlib.Core.Bool.{Bool, true, false}
-use mathlib.Core.List.{List, [], ◌∷◌, ◌++◌}
-use native.Mathlib.Omega.{arith}
-use lib.ListN.{length, get_or, drop}
-use lib.Seq.{take_at}
+use Rattle.std.proofs.Common.{ℕ, suc, ◌+◌, ◌<◌, ◌≡◌, refl, sym, ap, ◌∙◌, ◌≢◌, Bool, true, false, List, [], ◌∷◌, ◌++◌, arith, length, get_or, drop}
+use Rattle.std.proofs.Common.{take_at}
 use Rattle.walk.specs.declared.Walk.{Walk}
 use Rattle.places.specs.Places.{Stretch, turns_of, taken, Outcome, served}
 use Rattle.places.proofs.Partway.{served_refused, served_taken, served_length}

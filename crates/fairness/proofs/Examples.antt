@@ -1,5 +1,5 @@
 -- The calls as they are computed.
-use mathlib.Core.Path.{refl}
+use Rattle.std.proofs.Common.{refl}
 use Rattle.places.specs.Places.{next_place, first_of, chosen, turns_of, any_over, taken, served}
 use Rattle.fairness.specs.Examples.{Calls}
 

@@ -1,10 +1,5 @@
 -- Walks in turns: on any register in which its number is live a walk goes on from where it stands, and the steps of its turns join to one back.
-use Prim.Native.Nat.{ℕ, zero, suc, ◌+◌, ◌-◌, ◌≤◌}
-use mathlib.Core.Path.{◌≡◌, refl, sym, ap, ◌∙◌, subst}
-use mathlib.Core.List.{List, [], ◌∷◌}
-use native.Mathlib.Omega.{arith}
-use lib.IntN.{pos}
-use borrow.Author.Tests.{eq-eqb, ne_eqb}
+use Rattle.std.proofs.Common.{ℕ, zero, suc, ◌+◌, ◌-◌, ◌≤◌, ◌≡◌, refl, sym, ap, ◌∙◌, subst, List, [], ◌∷◌, arith, pos, eq-eqb, ne_eqb}
 use Rattle.register.specs.Rules.{Live}
 use Rattle.sheet.specs.Brought.{Brought}
 use Rattle.sheet.specs.Terms.{Terms}

@@ -1,12 +1,6 @@
 -- What the promise of turns comes to: by fairness, by the steps taken off, and by the rule.
-use Prim.Native.Nat.{ℕ, zero, suc, ◌-◌, ◌<◌}
-use mathlib.Core.Path.{◌≡◌, refl, sym, ap, ◌∙◌, subst}
-use mathlib.Core.Logic.{◌≢◌}
-use mathlib.Core.Bool.{Bool, true, false, true≢false}
-use mathlib.Core.List.{List, [], ◌∷◌, ◌++◌, append_assoc}
-use native.Mathlib.Omega.{arith}
-use lib.ListN.{length, get_or, drop, length-append, length-drop, length-set}
-use lib.Seq.{drop_at}
+use Rattle.std.proofs.Common.{ℕ, zero, suc, ◌-◌, ◌<◌, ◌≡◌, refl, sym, ap, ◌∙◌, subst, ◌≢◌, Bool, true, false, true≢false, List, [], ◌∷◌, ◌++◌}
+use Rattle.std.proofs.Common.{append_assoc, arith, length, get_or, drop, length-append, length-drop, length-set, drop_at}
 use Rattle.walk.specs.declared.Walk.{Walk}
 use Rattle.places.specs.Places.{one_off, taken}
 use Rattle.rounds.specs.Rounds.{turns_at}

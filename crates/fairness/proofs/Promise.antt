@@ -1,10 +1,6 @@
 -- Our call keeps to the rule, and no other function keeps the promise. That ours keeps all of it: Calls.antt.
-use Prim.Native.Nat.{ℕ, zero, suc, ◌≤◌, ◌<◌}
-use mathlib.Core.Path.{◌≡◌, refl, sym, ap, ◌∙◌, subst}
-use mathlib.Core.Bool.{Bool, true, false, true≢false}
-use mathlib.Core.List.{List, [], ◌∷◌, ◌++◌}
-use native.Mathlib.Omega.{arith}
-use lib.ListN.{length, get_or, drop, length-set}
+use Rattle.std.proofs.Common.{ℕ, zero, suc, ◌≤◌, ◌<◌, ◌≡◌, refl, sym, ap, ◌∙◌, subst, Bool, true, false, true≢false, List, [], ◌∷◌, ◌++◌, arith}
+use Rattle.std.proofs.Common.{length, get_or, drop, length-set}
 use Rattle.places.specs.Places.{chosen, one_off, Stretch, turns_of, any_over, taken, Outcome, served}
 use Rattle.places.proofs.Laws.{over_hit, over_miss, turns_stop, turns_go, fine, is_taken}
 use Rattle.places.proofs.Partway.{served_refused, served_taken, chosen_some}

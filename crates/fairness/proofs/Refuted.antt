@@ -1,13 +1,7 @@
 -- No wrong server keeps the promise: each tells or leaves something else than ours at the call named.
-use Prim.Native.Nat.{ℕ, zero, suc, ◌<◌}
-use mathlib.Core.Path.{◌≡◌, refl, sym, ap, ◌∙◌}
-use mathlib.Core.Logic.{◌≢◌}
-use mathlib.Core.Bool.{Bool, true, false, cond}
-use mathlib.Core.List.{List, [], ◌∷◌, ◌++◌}
-use native.Mathlib.Omega.{arith}
-use lib.Dec.{ltb}
-use borrow.Author.Tests.{lt-ltb, le-ltb, le-leb, lt-leb}
-use lib.ListN.{length, get_or, replicate}
+use Rattle.std.proofs.Common.{ℕ, zero, suc, ◌<◌, ◌≡◌, refl, sym, ap, ◌∙◌, ◌≢◌, Bool, true, false, cond, List, [], ◌∷◌, ◌++◌, arith, ltb, lt-ltb}
+use Rattle.std.proofs.Common.{le-ltb, le-leb, length, get_or, replicate}
+use borrow.Author.Tests.{lt-leb}
 use Rattle.walk.specs.declared.Walk.{Walk}
 use Rattle.places.specs.Places.{next_place, first_of, chosen, Stretch, rests, turn_then, one_off, turns_of, any_over, taken, served}
 use Rattle.places.proofs.Laws.{taken_empty, taken_long, taken_outside, taken_over, taken_room}

@@ -1,11 +1,5 @@
 -- No wrong back walks in turns as alone: the sheet of document 01 is opened, and has one turn or two.
-use Prim.Native.Nat.{ℕ}
-use mathlib.Core.Path.{◌≡◌, refl, sym, ap, ◌∙◌}
-use mathlib.Core.Bool.{false}
-use mathlib.Core.List.{List, [], ◌∷◌}
-use native.Mathlib.Omega.{arith}
-use lib.ListN.{length, get_or, set, replicate}
-use lib.IntN.{pos, nat_abs}
+use Rattle.std.proofs.Common.{ℕ, ◌≡◌, refl, sym, ap, ◌∙◌, false, List, [], ◌∷◌, arith, length, get_or, set, replicate, pos, nat_abs}
 use Rattle.cash.specs.Units.{B}
 use Rattle.register.specs.Rules.{Live}
 use Rattle.register.specs.Events.{blank_register}

@@ -1,13 +1,8 @@
 -- The search for a fraction above the accrual of the next premium date, from the last step down.
-use Prim.Native.Nat.{ℕ, zero, suc, ◌-◌, ◌≤◌, ◌<◌}
-use mathlib.Core.Path.{◌≡◌, refl, sym, ap, ◌∙◌}
-use mathlib.Core.Bool.{Bool, false}
-use mathlib.Core.List.{List, [], ◌∷◌}
-use native.Mathlib.Omega.{arith}
+use Rattle.std.proofs.Common.{ℕ, zero, suc, ◌-◌, ◌≤◌, ◌<◌, ◌≡◌, refl, sym, ap, ◌∙◌, Bool, false, List, [], ◌∷◌, arith, length, get_or, drop}
+use Rattle.std.proofs.Common.{drop-cons, ltb}
 use native.Mathlib.Decide.{dec_lt}
-use lib.ListN.{length, get_or, drop}
-use lib.Seq.{drop-cons, drop-length}
-use lib.Dec.{ltb}
+use lib.Seq.{drop-length}
 use Rattle.sheet.specs.Dates.{next_accrual}
 use Rattle.rows.specs.Tables.{any}
 use Rattle.rows.proofs.Search.{any_missed}

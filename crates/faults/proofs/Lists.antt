@@ -1,33 +1,32 @@
 -- A search over a whole list that has its length is the search that a test of the sheet names.
-use Prim.Native.Nat.{ℕ, pred, ◌+◌, ◌*◌, ◌-◌, ◌≤◌, ◌<◌}
-use mathlib.Core.Path.{◌≡◌, refl, sym, ap, ◌∙◌}
-use mathlib.Core.Bool.{Bool, true, false, ◌||◌}
-use mathlib.Core.List.{List, []}
-use native.Mathlib.Omega.{arith}
-use native.Mathlib.Numerals.{sub-one}
-use lib.ListN.{length, get_or}
-use lib.Dec.{ltb, eqb}
-use borrow.Author.Tests.{lt-ltb, le-ltb}
+use Rattle.std.proofs.Common.{ℕ, pred, ◌+◌, ◌*◌, ◌-◌, ◌^◌, ◌≤◌, ◌<◌, ◌≡◌, refl, ap, ◌∙◌, Bool, false, ◌||◌, List, [], arith, sub-one, length, get_or}
+use Rattle.std.proofs.Common.{ltb, eqb, le_refl, mul-le-mul}
+use Rattle.std.specs.List.{sum}
+use Rattle.std.proofs.lemmas.List.{get_or_default}
+use Rattle.std.proofs.lemmas.List.Sums.{sum_by-le}
 use Rattle.cash.specs.Units.{B}
+use Rattle.refusals.proofs.Judged.{any_fine, most_fine}
 use Rattle.sheet.specs.declared.Pool.{Pool}
 use Rattle.sheet.specs.Terms.{Terms, terms_of, sum_of}
 use Rattle.rows.specs.Tables.{any}
 use Rattle.sheet.specs.Brought.{Brought}
 use Rattle.lists.specs.Outside.{outside}
-use Rattle.refusals.specs.Tests.{differs, periods_bad, lists_bad, attachments_bad, starts_bad, hazards_bad, discounts_bad, accruals_bad, elapsed_bad, coupons_bad}
+use Rattle.refusals.specs.Tests.{attachments_bad, starts_bad, hazards_bad, discounts_bad, accruals_bad, elapsed_bad, coupons_bad}
 use Rattle.lists.proofs.Loops.{falls}
 use Rattle.faults.proofs.Elapsed.{over_next}
 
 same_reach : (f : ℕ → Bool) {n m : ℕ} → n ≡ m → any n f ≡ any m f
 same_reach f e = ap (λ n. any n f) e
 
--- A total that was found to be over its limit, or not.
-module _ (l : List ℕ) (most total : ℕ) (e : total ≡ sum_of l) where
-  pub over : most < total → true ≡ ltb most (sum_of l)
-  over h = sym (lt-ltb most (sum_of l) (rw e at h))
-
-  pub not_over : total ≤ most → false ≡ ltb most (sum_of l)
-  not_over h = sym (le-ltb most (sum_of l) (rw e at h))
+-- Few numbers that are none above B have a sum that fits.
+pub sum_fits : (l : List ℕ) → length l ≤ 3650 → any (length l) (λ i. ltb B (get_or l i 0)) ≡ false → sum l < 2 ^ 64
+unfolding B
+sum_fits l short low =
+    omega (
+      arith,
+      sum_by-le (λ y. y) B l (λ i d h. rw (get_or_default l i d 0 h) ((any_fine (length l) (λ i. most_fine B (get_or l i 0))).0 low i h)),
+      mul-le-mul {m₁ = B} {m₂ = B} short (le_refl B),
+    )
 
 module _ (x : Terms) where
   pub attachments_told : {fall high : Bool} → length x.attachments ≡ x.tranches + 1 →
@@ -37,16 +36,6 @@ module _ (x : Terms) where
   attachments_told e p q =
       let less : pred (length x.attachments) ≡ x.tranches = omega (arith, sub-one (length x.attachments)) in
       rw (p ∙ same_reach _ less, q ∙ same_reach _ e)
-
-  pub starts_told : {off fall high : Bool} → off ≡ differs (get_or x.starts 0 0) 1 → fall ≡ any (pred (length x.starts)) (falls x.starts) →
-      high ≡ any (length x.starts) (λ i. ltb x.steps (get_or x.starts i 0)) → (off || fall || high) ≡ starts_bad x
-  unfolding starts_bad
-  starts_told o p q = rw (o, p, q)
-
-  pub periods_told : {off long : Bool} → off ≡ outside 1 16 (length x.starts) → long ≡ differs (length x.hazards) (length x.starts * x.names) →
-      (off || long) ≡ periods_bad x
-  unfolding periods_bad
-  periods_told o p = rw (o, p)
 
   -- a list that is the sheet's own
   pub hazards_told : {l : List ℕ} {high : Bool} → l ≡ x.hazards →
@@ -76,13 +65,6 @@ module _ (x : Brought) where
       high ≡ any (length l) (λ i. ltb 10_000_000 (get_or l i 0)) → high ≡ coupons_bad x
   unfolding coupons_bad
   coupons_told s e p = p ∙ (λ t. any (length (s t)) (λ i. ltb 10_000_000 (get_or (s t) i 0))) ∙ same_reach _ e
-
-  pub lists_told : {a b c d e f : Bool} → a ≡ differs (length x.sheet.attachments) (x.sheet.tranches + 1) →
-      b ≡ periods_bad x.sheet → c ≡ differs (length x.sheet.discounts) x.sheet.steps →
-      d ≡ differs (length x.sheet.accruals) x.sheet.steps → e ≡ differs (length x.sheet.elapsed) x.sheet.steps →
-      f ≡ differs (length x.coupons) (x.sheet.tranches + 1) → (a || b || c || d || e || f) ≡ lists_bad x
-  unfolding lists_bad
-  lists_told a b c d e f = rw (a, b, c, d, e, f)
 
 -- What rests on the pool and one list alone, or two.
 module _ (pool : Pool) (attachments starts hazards discounts accruals elapsed l : List ℕ) where

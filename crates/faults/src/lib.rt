@@ -13,76 +13,46 @@ use cash::UNITS;
 use sheet::{NAMES_MOST, PERIODS_MOST, Pool, STEPS_MOST, Sheet, Span, TRANCHES_MOST, part};
 
 // 1: whether the names, steps or tranches are outside their limits.
+#[tactic(auto, unfolding(refusals::specs::Tests::pool_bad))]
 pub fn pool_outside(pool: Pool) -> bool
     ensures { result ≡ pool_bad (bare pool []) }
 {
-    if pool.names < 1 {
-        return true;
-    }
-    if NAMES_MOST < pool.names {
-        return true;
-    }
-    if pool.steps < 1 {
-        return true;
-    }
-    if STEPS_MOST < pool.steps {
-        return true;
-    }
-    if pool.tranches < 1 {
-        return true;
-    }
-    if TRANCHES_MOST < pool.tranches {
-        return true;
-    }
-    false
+    !(1..=NAMES_MOST).contains(&pool.names)
+        || !(1..=STEPS_MOST).contains(&pool.steps)
+        || !(1..=TRANCHES_MOST).contains(&pool.tranches)
 }
 
 // Whether the list of a span has another length.
 fn length_differs(span: Span, numbers: &[u64], due: usize) -> bool
     ensures { result ≡ differs (length (list_in span numbers.now)) due }
 {
-    let list = part(span, numbers);
-    list.len() != due
+    part(span, numbers).len() != due
 }
 
 // 2, of the periods: whether there is none or more than 16, or the hazards are not n for each.
+#[tactic(auto, unfolding(refusals::specs::Tests::periods_bad))]
 fn periods_differ(sheet: Sheet, numbers: &[u64]) -> bool
     requires { sheet.pool.names ≤ 125 }
     ensures { result ≡ periods_bad (terms_in sheet numbers.now) }
 {
-    let starts = part(sheet.starts, numbers);
-    let periods = starts.len();
-    if periods < 1 {
-        return true;
-    }
-    if PERIODS_MOST < periods {
-        return true;
-    }
-    length_differs(sheet.hazards, numbers, periods * sheet.pool.names)
+    let periods = part(sheet.starts, numbers).len();
+    !(1..=PERIODS_MOST).contains(&periods)
+        || length_differs(sheet.hazards, numbers, periods * sheet.pool.names)
 }
 
 // 2: whether one of the sheet's own lists has another length. Few names and tranches, so that as many hazards and one more point fit.
+#[tactic(auto, unfolding(refusals::specs::Tests::lists_bad))]
 pub fn lists_differ(sheet: Sheet, numbers: &[u64]) -> bool
     requires { (sheet.pool.names ≤ 125) × (sheet.pool.tranches ≤ 8) }
     ensures { result ≡ lists_bad (brought_in sheet numbers.now) }
 {
     let points = sheet.pool.tranches + 1;
-    if length_differs(sheet.attachments, numbers, points) {
-        return true;
-    }
-    if periods_differ(sheet, numbers) {
-        return true;
-    }
-    if length_differs(sheet.discounts, numbers, sheet.pool.steps) {
-        return true;
-    }
-    if length_differs(sheet.accruals, numbers, sheet.pool.steps) {
-        return true;
-    }
-    if length_differs(sheet.elapsed, numbers, sheet.pool.steps) {
-        return true;
-    }
-    length_differs(sheet.coupons, numbers, points)
+    length_differs(sheet.attachments, numbers, points)
+        || periods_differ(sheet, numbers)
+        || length_differs(sheet.discounts, numbers, sheet.pool.steps)
+        || length_differs(sheet.accruals, numbers, sheet.pool.steps)
+        || length_differs(sheet.elapsed, numbers, sheet.pool.steps)
+        || length_differs(sheet.coupons, numbers, points)
 }
 
 // 4: whether the attachment points do not rise, or one is above the pool.
@@ -90,24 +60,16 @@ pub fn attachments_bad(pool: Pool, attachments: &[u64]) -> bool
     requires { length attachments.now ≡ pool.tranches + 1 }
     ensures { result ≡ attachments_bad (bare pool attachments.now) }
 {
-    if lists::any_fall(attachments) {
-        return true;
-    }
-    lists::any_above(attachments, UNITS)
+    lists::any_fall(attachments) || lists::any_above(attachments, UNITS)
 }
 
 // 25: whether the first period does not start at step 1, or the starts do not rise, or one is beyond the last step.
+#[tactic(auto, unfolding(refusals::specs::Tests::starts_bad))]
 pub fn starts_bad(pool: Pool, starts: &[u64]) -> bool
     requires { 1 ≤ length starts.now }
     ensures { result ≡ starts_bad (terms_of pool [] starts.now [] [] [] []) }
 {
-    if starts[0] != 1 {
-        return true;
-    }
-    if lists::any_fall(starts) {
-        return true;
-    }
-    lists::any_above(starts, pool.steps as u64)
+    starts[0] != 1 || lists::any_fall(starts) || lists::any_above(starts, pool.steps as u64)
 }
 
 // 7: whether an accrual or their sum is above its limit, or the last is 0.
@@ -115,24 +77,16 @@ pub fn accruals_bad(pool: Pool, accruals: &[u64]) -> bool
     requires { (1 ≤ pool.steps) × (pool.steps ≤ 3650) × (length accruals.now ≡ pool.steps) }
     ensures { result ≡ accruals_bad (terms_of pool [] [] [] [] accruals.now []) }
 {
-    if lists::any_above(accruals, UNITS) {
-        return true;
-    }
-    if 10 * UNITS < lists::sum(accruals) {
-        return true;
-    }
-    let last = pool.steps - 1;
-    accruals[last] == 0
+    lists::any_above(accruals, UNITS)
+        || 10 * UNITS < accruals.iter().sum()
+        || accruals[pool.steps - 1] == 0
 }
 
 // The accrual of the next premium date at a step or after it, where `next` is that after it.
 fn next_date(accrual: u64, next: u64) -> u64
     ensures { result ≡ next_accrual (accrual ∷ next ∷ []) }
 {
-    if accrual != 0 {
-        return accrual;
-    }
-    next
+    if accrual == 0 { next } else { accrual }
 }
 
 // 21: whether an elapsed fraction is above the accrual of the next premium date at its step or after it. From the last step down.
@@ -142,9 +96,7 @@ fn elapsed_over(accruals: &[u64], elapsed: &[u64]) -> bool
         (λ i. ltb (next_accrual (drop i accruals.now)) (get_or elapsed.now i 0)) }
 {
     let mut next = 0;
-    let mut i = elapsed.len();
-    while 0 < i {
-        i -= 1;
+    for i in (0..elapsed.len()).rev() {
         next = next_date(accruals[i], next);
         if next < elapsed[i] {
             return true;
@@ -158,8 +110,5 @@ pub fn elapsed_bad(pool: Pool, accruals: &[u64], elapsed: &[u64]) -> bool
     requires { (length accruals.now ≡ pool.steps) × (length elapsed.now ≡ pool.steps) }
     ensures { result ≡ elapsed_bad (terms_of pool [] [] [] [] accruals.now elapsed.now) }
 {
-    if !lists::any_above(elapsed, 0) {
-        return false;
-    }
-    elapsed_over(accruals, elapsed)
+    lists::any_above(elapsed, 0) && elapsed_over(accruals, elapsed)
 }

@@ -1,11 +1,5 @@
 -- Where a node stands in a row, and the figures of one that can be read.
-use mathlib.Core.Path.{◌≡◌, sym, ap, subst}
-use mathlib.Core.List.{List}
-use Prim.Native.Nat.{ℕ, ◌+◌, ◌*◌, ◌≤◌, ◌<◌}
-use native.Mathlib.Numerals.{add-one}
-use native.Mathlib.Nat.{mul-le-mul_right}
-use native.Mathlib.Omega.{arith}
-use lib.ListN.{get_or}
+use Rattle.std.proofs.Common.{◌≡◌, sym, ap, subst, List, ℕ, ◌+◌, ◌*◌, ◌≤◌, ◌<◌, add-one, mul-le-mul_right, arith, get_or}
 use Rattle.hedges.specs.declared.Node.{Node}
 use Rattle.hedges.specs.Hedges.{Figures}
 use Rattle.sheet.specs.Terms.{Terms}

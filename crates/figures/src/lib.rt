@@ -10,34 +10,23 @@ ghost use Rattle.rows.specs.Rows.{rows_of};
 ghost use Rattle.figures.specs.Nodes.{node_of, jump, Readable};
 
 use hedges::Node;
-use refusals::Refusal;
 use sheet::Sheet;
 
 pub mod replies; // replies.rt: what accepted calls answer
 
-// What a call answers.
-#[derive(Clone, Copy)]
-pub enum Answer {
-    Refused(Refusal),
-    // open and forward
-    Done,
-    // back: the new position
-    Position(usize),
-    // value: D, A and W
-    Worth(u64, u64, i64),
-    // hedge ratio, in millionths
-    Ratio(i64),
+// What value answers: D, A and W of a tranche at a count.
+#[derive(Clone, Copy, Debug, PartialEq, Eq)]
+pub struct Worth {
+    pub default: u64,
+    pub premium: u64,
+    pub net: i64,
 }
 
 // A row of zeros.
 pub fn clear(row: &mut [u64])
     ensures { row.new ≡ tab (length row.old) (λ i. 0) }
 {
-    let mut i = 0;
-    while i < row.len() {
-        row[i] = 0;
-        i += 1;
-    }
+    row.fill(0);
 }
 
 // The loss, D and A of a tranche at a count.
@@ -71,8 +60,8 @@ pub fn jump_at(
     count: usize,
 ) -> i64
     requires tranches_within { TranchesWithin (terms_in sheet numbers.now) }
-    requires readable { Readable (brought_in sheet numbers.now) (rows_of defaults.now premiums.now) tranche count }
-    requires readable_2 { Readable (brought_in sheet numbers.now) (rows_of defaults.now premiums.now) tranche (suc count) }
+    requires readable_here { Readable (brought_in sheet numbers.now) (rows_of defaults.now premiums.now) tranche count }
+    requires readable_next { Readable (brought_in sheet numbers.now) (rows_of defaults.now premiums.now) tranche (suc count) }
     ensures { result ≡ jump (brought_in sheet numbers.now) (rows_of defaults.now premiums.now) tranche count }
 {
     let here = node_at(sheet, numbers, defaults, premiums, tranche, count);

@@ -4,10 +4,11 @@ ghost use Rattle.hedges.specs.Hedges.{hedge_of};
 ghost use Rattle.sheet.specs.Spans.{brought_in};
 ghost use Rattle.rows.specs.Rows.{rows_of};
 ghost use Rattle.figures.specs.Nodes.{Readable};
+ghost use Rattle.figures.specs.Answer.{worth_of, ratio_answer};
 ghost use Rattle.figures.specs.Replies.{worth, hedge_answer};
 
-use crate::Answer;
-use hedges::Hedge;
+use crate::Worth;
+use hedges::NoRatio;
 use refusals::Refusal;
 use sheet::Sheet;
 
@@ -19,26 +20,28 @@ pub fn worth_at(
     premiums: &[u64],
     tranche: usize,
     count: usize,
-) -> Answer
+) -> Worth
     requires { Readable (brought_in sheet numbers.now) (rows_of defaults.now premiums.now) tranche count }
-    ensures { result ≡ worth (brought_in sheet numbers.now) (rows_of defaults.now premiums.now) tranche count }
+    ensures { worth_of result ≡ worth (brought_in sheet numbers.now) (rows_of defaults.now premiums.now) tranche count }
 {
     let place = tranche * (sheet.pool.names + 1) + count;
-    let d = defaults[place];
-    let a = premiums[place];
+    let default = defaults[place];
+    let premium = premiums[place];
     let coupon = sheet::number_at(sheet.coupons, numbers, tranche);
-    Answer::Worth(d, a, hedges::net_value(d, coupon, a))
+    Worth {
+        default,
+        premium,
+        net: hedges::net_value(default, coupon, premium),
+    }
 }
 
 // The ratio of two jumps as it is answered.
-pub fn ratio_of(tranche: i64, index: i64) -> Answer
+pub fn ratio_of(tranche: i64, index: i64) -> Result<i64, Refusal>
     requires { (nat_abs tranche ≤ 200_000_000_000_000_000) × (nat_abs index ≤ 200_000_000_000_000_000) }
-    ensures { result ≡ hedge_answer (hedge_of tranche index) }
+    ensures { ratio_answer result ≡ hedge_answer (hedge_of tranche index) }
 {
-    let hedge = hedges::hedge_ratio(tranche, index);
-    match hedge {
-        Hedge::Flat => Answer::Refused(Refusal::FlatHedge),
-        Hedge::OffScale => Answer::Refused(Refusal::OffScale),
-        Hedge::Millionths(z) => Answer::Ratio(z),
-    }
+    hedges::hedge_ratio(tranche, index).map_err(|why| match why {
+        NoRatio::Flat => Refusal::FlatHedge,
+        NoRatio::OffScale => Refusal::OffScale,
+    })
 }

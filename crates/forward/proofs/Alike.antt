@@ -1,12 +1,7 @@
 -- A distribution rests on names, starts and hazards alone.
-use Prim.Native.Nat.{ℕ, zero, suc, ◌+◌, ◌-◌, ◌*◌, ◌<◌}
-use mathlib.Core.Path.{◌≡◌, refl, ap, ap₂, sym, ◌∙◌}
-use mathlib.Core.Bool.{cond}
-use mathlib.Core.List.{List}
-use native.Mathlib.Nat.{le_of_suc-le, lt-suc_self}
-use native.Mathlib.Numerals.{add-one}
-use lib.ListN.{length, get_or}
-use lib.Dec.{ltb}
+use Rattle.std.proofs.Common.{ℕ, zero, suc, ◌+◌, ◌-◌, ◌*◌, ◌≤◌, ◌<◌, ◌≡◌, refl, ap, ap₂, sym, ◌∙◌, cond, List, lt-suc_self, add-one, arith, length}
+use Rattle.std.proofs.Common.{get_or, take, drop, ltb}
+use native.Mathlib.Nat.{le_of_suc-le}
 use Rattle.cash.specs.Units.{B, half}
 use Rattle.tree.specs.Paths.{Tree}
 use Rattle.sheet.specs.Terms.{Terms}
@@ -17,6 +12,7 @@ use Rattle.rows.specs.Rows.{distribution_row}
 use Rattle.rows.proofs.Tables.{length_tab, get_d_tab, is_tab}
 use Rattle.sheet.specs.Limits.{CurvesFit}
 use Rattle.sheet.specs.Periods.{period_of, hazards_at}
+use Rattle.sheet.proofs.Periods.{hazards_there, hazards_part}
 use Rattle.rows.proofs.Rolled.{hazard_is}
 use Rattle.forward.specs.Steps.{hazard_sheet, HazardsFit, step_tree, pushed_row}
 
@@ -76,7 +72,7 @@ module _ (names : ℕ) (starts hazards : List ℕ) where
     unfolding step_tree tree_of hazard_sheet
     step_alike h k = hazard_is x curves (suc h) k
 
-    pub row_step : (h : ℕ) → pushed_row (hazards_at names starts hazards (suc h)) (distribution_row x h) ≡ distribution_row x (suc h)
+    row_step : (h : ℕ) → pushed_row (hazards_at names starts hazards (suc h)) (distribution_row x h) ≡ distribution_row x (suc h)
     unfolding pushed_row distribution_row distribution
     row_step h =
         let q : ℕ → ℕ = distribution (tree_of x) h in
@@ -85,6 +81,19 @@ module _ (names : ℕ) (starts hazards : List ℕ) where
         ∙ tab_cong (suc x.names) _ _
         (pushed_alike (step_tree hz) (tree_of x) 1 (suc h) (step_alike h) (λ k. get_or (tab (suc x.names) q) k 0) q (suc x.names)
         (λ k l. get_d_tab (suc x.names) q k l))
+
+    -- the hazards of a step's period stand in the list
+    pub hazards_lent : (s from : ℕ) → from ≡ period_of starts s * names → from + names ≤ length hazards
+    unfolding hazard_sheet
+    hazards_lent s from f = omega (arith, f, hazards_there x curves s)
+
+    -- a step by them leads to the next distribution
+    pub row_next : (s from to : ℕ) (row : List ℕ) → 1 ≤ s → s ≡ to → row ≡ distribution_row x (s - 1) → from ≡ period_of starts s * names →
+        pushed_row (take (from + names - from) (drop from hazards)) row ≡ distribution_row x to
+    row_next s from to row h t r f =
+        let e : suc (s - 1) ≡ s = omega arith in
+        let lent : take (from + names - from) (drop from hazards) ≡ hazards_at names starts hazards s = hazards_part names starts hazards s from _ f refl in
+        (λ i. pushed_row (lent i) (r i)) ∙ (rw e at (row_step (s - 1))) ∙ ap (distribution_row x) t
 
 -- names, starts and hazards that are those of a sheet give its distribution
 pub hazards_enough : (x : Terms) (starts hazards : List ℕ) → starts ≡ x.starts → hazards ≡ x.hazards →

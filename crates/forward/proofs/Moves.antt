@@ -1,18 +1,15 @@
 -- A row that is pushed in place from its last count down to the count k.
-use Prim.Native.Nat.{ℕ, zero, suc, ◌+◌, ◌-◌, ◌*◌, ◌^◌, ◌≤◌, ◌<◌}
-use mathlib.Core.Path.{◌≡◌, refl, ap, ap₂, sym, ◌∙◌}
-use mathlib.Core.List.{List}
-use native.Mathlib.Nat.{le_refl, mul-zero, mul-le-mul, mul-le-mul_left}
-use native.Mathlib.Numerals.{add-one}
-use native.Mathlib.Omega.{arith}
+use Rattle.std.proofs.Common.{ℕ, zero, suc, ◌+◌, ◌-◌, ◌*◌, ◌^◌, ◌≤◌, ◌<◌, ◌≡◌, refl, ap, ap₂, sym, ◌∙◌, List, ◌∷◌, le_refl, le_trans, le_of_eq}
+use Rattle.std.proofs.Common.{mul-zero, mul-le-mul, mul-le-mul_left, add-one, arith, length, replicate, get_or, set, length-set, get_or-set_same}
+use Rattle.std.proofs.Common.{get_or-set_other}
 use native.Mathlib.Decide.{ℕ_discrete}
-use lib.ListN.{length, get_or, set, length-set, get_or-eq_default}
-use lib.Seq.{get_or-set_same, get_or-set_other}
+use lib.ListN.{get_or-eq_default}
 use lib.Dec.{eqb-zero-suc}
 use Rattle.cash.specs.Units.{B, half}
 use Rattle.cash.proofs.Rounding.{half_most, half_whole}
 use Rattle.tree.specs.Forward.{same, outflow, from_below, pushed}
-use Rattle.rows.proofs.Tables.{is_tab}
+use Rattle.rows.specs.Tables.{tab}
+use Rattle.rows.proofs.Tables.{is_tab, filled_tab}
 use Rattle.forward.specs.Steps.{step_tree, pushed_row}
 
 half_none : half 0 ≡ 0
@@ -63,6 +60,10 @@ pub pushing_none : (m : ℕ → ℕ) (xs : List ℕ) (n k : ℕ) → length xs �
 pushing_none m xs n k e z p =
     record { long = refl; below = λ i h. refl; here = omega (arith, ap m p); done = λ i h l. absurd (omega arith) }
 
+-- a count below still holds no more than it held
+pub pushing_held : (m : ℕ → ℕ) (xs ys : List ℕ) (k i : ℕ) → Pushing m xs ys k → i < k → ((i : ℕ) → get_or xs i 0 ≤ B) → get_or ys i 0 ≤ B
+pushing_held m xs ys k i s l most = le_trans (le_of_eq (s.below i l)) (most i)
+
 -- what a count holds that has given and not yet got
 pub pushing_most : (m : ℕ → ℕ) (xs ys : List ℕ) (j k : ℕ) → Pushing m xs ys j → j ≡ k → ((i : ℕ) → get_or xs i 0 ≤ B) → get_or ys k 0 ≤ B
 pushing_most m xs ys j k s e most = omega (arith, s.here, most j, ap (λ (i : ℕ). get_or ys i 0) e)
@@ -107,11 +108,7 @@ unfolding pushed_row pushed moves settled
 pushing_all hazards xs ys s = is_tab ys (length xs) _ s.long (settled_all (moves hazards xs) xs ys s)
 
 -- a fresh row: B at the count 0, and nothing later
-pub one_unit : B ≡ B * same 0 0
-unfolding same
-one_unit = omega arith
-
-pub none_later : (k : ℕ) → 1 ≤ k → 0 ≡ B * same 0 k
-unfolding same
-none_later zero l = absurd (omega arith)
-none_later (suc k) l = rw eqb-zero-suc (omega arith)
+pub fresh_row : (n : ℕ) → 0 < n → set (replicate n 0) 0 B ≡ tab n (λ k. B * same 0 k)
+unfolding tab same
+fresh_row zero l = absurd (omega arith)
+fresh_row (suc n) l = ap₂ (λ b r. b ∷ r) (omega arith) (filled_tab n 0 (λ k. B * same 0 (suc k)) (λ k. rw eqb-zero-suc (omega arith)))

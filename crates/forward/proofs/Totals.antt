@@ -1,11 +1,7 @@
 -- A distribution always totals B, so no count holds more than B.
-use Prim.Native.Nat.{ℕ, zero, suc, ◌+◌, ◌≤◌, ◌<◌, zero-le}
-use mathlib.Core.Path.{◌≡◌, ap}
-use mathlib.Core.List.{List}
-use native.Mathlib.Nat.{le_refl, le_trans, le_of_eq}
-use native.Mathlib.Omega.{arith}
+use Rattle.std.proofs.Common.{ℕ, zero, suc, ◌+◌, ◌≤◌, ◌<◌, zero-le, ◌≡◌, ap, List, le_refl, le_trans, le_of_eq, arith, length, get_or}
 use native.Mathlib.Decide.{dec_lt}
-use lib.ListN.{length, get_or, get_or-eq_default}
+use lib.ListN.{get_or-eq_default}
 use Rattle.cash.specs.Units.{B}
 use Rattle.cash.specs.Sums.{sum_to}
 use Rattle.tree.specs.Paths.{Fair}
@@ -17,10 +13,8 @@ use Rattle.rows.specs.Rows.{distribution_row}
 use Rattle.rows.proofs.Tables.{length_tab, get_d_tab}
 use Rattle.tree.proofs.Sheets.{hazard_sure}
 use Rattle.sheet.specs.Terms.{Terms}
-use Rattle.sheet.specs.Periods.{hazards_at}
-use Rattle.rows.proofs.Rolled.{hazard_last, hazard_is}
+use Rattle.rows.proofs.Rolled.{hazard_last}
 use Rattle.forward.specs.Steps.{hazard_sheet, HazardsFit}
-use Rattle.forward.proofs.Alike.{curves}
 
 part_most : (n : ℕ) (f : ℕ → ℕ) (k : ℕ) → k < n → f k ≤ sum_to n f
 unfolding sum_to
@@ -59,8 +53,3 @@ module _ (names : ℕ) (starts hazards : List ℕ) (fit : HazardsFit names start
   -- no count holds more than B
   pub row_most : (h : ℕ) (row : List ℕ) → row ≡ distribution_row x h → (k : ℕ) → get_or row k 0 ≤ B
   row_most h row e k = rw e (count_most h k (dec_lt k (suc x.names)))
-
-  -- nor has a step a hazard over it
-  pub step_most : (s k : ℕ) → get_or (hazards_at names starts hazards s) k 0 ≤ B
-  unfolding hazard_sheet
-  step_most s k = rw (hazard_is x (curves names starts hazards fit) s k) (hazard_sure x fit.most s k)

@@ -16,31 +16,22 @@ fn start(row: &mut [u64])
     requires { 0 < length row.old }
     ensures { row.new ≡ tab (length row.old) (λ k. B * same 0 k) }
 {
-    let size = row.len();
+    row.fill(0);
     row[0] = cash::UNITS;
-    let mut k = 1;
-    while k < size {
-        row[k] = 0;
-        k += 1;
-    }
 }
 
 // One step in place, from high counts to low ones: so every move is taken from the old row.
 fn push(row: &mut [u64], hazards: &[u64])
     requires row_len { length row.old ≡ length hazards.now + 1 }
-    requires by_index { (k : ℕ) → get_or row.old k 0 ≤ B }
-    requires by_index_2 { (k : ℕ) → get_or hazards.now k 0 ≤ B }
+    requires row_most { (k : ℕ) → get_or row.old k 0 ≤ B }
+    requires hazards_most { (k : ℕ) → get_or hazards.now k 0 ≤ B }
     ensures { row.new ≡ pushed_row hazards.now row.old }
 {
-    let n = hazards.len();
-    let mut done = 0;
-    while done < n {
-        let k = n - 1 - done;
+    for k in (0..hazards.len()).rev() {
         let held = row[k];
         let moved = cash::half(held * hazards[k]);
         row[k + 1] += moved;
         row[k] = held - moved;
-        done += 1;
     }
 }
 
@@ -51,11 +42,8 @@ pub fn distribute(names: usize, starts: &[u64], hazards: &[u64], row: &mut [u64]
     ensures { row.new ≡ distribution_row (hazard_sheet names starts.now hazards.now) steps }
 {
     start(row);
-    let mut step = 0;
-    while step < steps {
-        step += 1;
-        let a = hazards_from(names, starts, step);
-        let e = a + names;
-        push(row, &hazards[a..e]);
+    for step in 1..=steps {
+        let from = hazards_from(names, starts, step);
+        push(row, &hazards[from..from + names]);
     }
 }

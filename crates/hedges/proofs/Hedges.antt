@@ -1,9 +1,5 @@
 -- The hedge ratio is answered as document 01's table says, and its millionths are the nearest.
-use mathlib.Core.Path.{ap}
-use Prim.Native.Nat.{ℕ, ◌+◌, ◌*◌, ◌<◌}
-use native.Mathlib.Nat.{div-add-mod', mod-lt, le-div_iff_mul-le}
-use native.Mathlib.Omega.{arith}
-use lib.IntN.{ℤ}
+use Rattle.std.proofs.Common.{ap, ℕ, ◌+◌, ◌*◌, ◌<◌, div-add-mod', mod-lt, le-div_iff_mul-le, arith, ℤ}
 use Rattle.cash.specs.Near.{Near}
 use Rattle.hedges.specs.Hedges.{Hedges, hedge_of, hedge_number, millionths}
 use Rattle.hedges.proofs.Long.{flat, off_scale, answered}

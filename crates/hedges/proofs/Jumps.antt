@@ -1,7 +1,5 @@
 -- How large changes and jumps are.
-use mathlib.Core.Path.{◌≡◌, refl}
-use Prim.Native.Nat.{ℕ, ◌*◌, ◌≤◌}
-use lib.IntN.{ℤ, pos, nat_abs}
+use Rattle.std.proofs.Common.{◌≡◌, refl, ℕ, ◌*◌, ◌≤◌, ℤ, pos, nat_abs}
 use Rattle.cash.specs.Units.{B}
 use Rattle.hedges.specs.declared.Node.{Node}
 use Rattle.hedges.specs.Hedges.{change_of, jump_of, Figures}

@@ -1,14 +1,10 @@
 -- The long division of signed numbers: after i digits, the quotient and the rest, each by sign and size.
-use mathlib.Core.Path.{◌≡◌, refl, sym, ◌∙◌, ap, subst}
-use mathlib.Core.Bool.{Bool, true, false}
-use Prim.Native.Nat.{ℕ, zero, ◌+◌, ◌*◌, ◌/◌, ◌%◌, ◌^◌, ◌<◌, ◌≤◌}
-use native.Mathlib.Nat.{mul-one, mul_assoc, pow-suc, le-div_iff_mul-le}
-use native.Mathlib.Omega.{arith}
-use borrow.Author.Tests.{eq-eqb, ne_eqb, le-leb, lt-leb}
-use native.Mathlib.Numerals.{add-one}
-use lib.IntN.{ℤ, pos, nat_abs, ◌+ℤ◌, ◌-ℤ◌}
+use Rattle.std.proofs.Common.{◌≡◌, refl, sym, ◌∙◌, ap, subst, Bool, true, false, ℕ, zero, ◌+◌, ◌*◌, ◌/◌, ◌%◌, ◌^◌, ◌<◌, ◌≤◌, mul-one, mul_assoc}
+use Rattle.std.proofs.Common.{pow-suc, le-div_iff_mul-le, arith, eq-eqb, ne_eqb, le-leb, add-one, ℤ, pos, nat_abs, ◌+ℤ◌, ◌-ℤ◌}
+use borrow.Author.Tests.{lt-leb}
 use lib.Signed.{quot_z, rem_z}
-use Rattle.hedges.specs.declared.Hedge.TheVariants.{Millionths, Flat, OffScale}
+use Rattle.std.specs.declared.result.Result.TheVariants.{Ok, Err}
+use Rattle.hedges.specs.declared.NoRatio.TheVariants.{Flat, OffScale}
 use Rattle.hedges.specs.Hedges.{negative, unlike, with_sign, ratio_of, hedge_of}
 use Rattle.hedges.proofs.Machine.{two}
 use Rattle.hedges.proofs.Signs.{signed_of, plus, quot, rem}
@@ -57,16 +53,16 @@ module _ (s d : ℤ) (h : zero < nat_abs d) where
         ∙ ap (with_sign (negative s)) (next_rest (scaled s i) (nat_abs d) h ∙ ap (λ (n : ℕ). n % nat_abs d) (more s i))
 
 -- ---- the answer
-pub flat : (s d : ℤ) → nat_abs d ≡ 0 → hedge_of s d ≡ Flat
+pub flat : (s d : ℤ) → nat_abs d ≡ 0 → hedge_of s d ≡ Err Flat
 unfolding hedge_of
 flat s d e = simp (eq-eqb (nat_abs d) 0 e)
 
 module _ (s d : ℤ) (h : zero < nat_abs d) where
-  pub off_scale : 1_000_000 ≤ scaled s 0 / nat_abs d → hedge_of s d ≡ OffScale
+  pub off_scale : 1_000_000 ≤ scaled s 0 / nat_abs d → hedge_of s d ≡ Err OffScale
   unfolding hedge_of
   off_scale l = simp (ne_eqb (nat_abs d) 0 (λ e. omega arith), le-leb (1_000_000 * nat_abs d) (nat_abs s) (omega (arith, (le-div_iff_mul-le h).0 l)))
 
-  pub answered : nat_abs s < 1_000_000 * nat_abs d → hedge_of s d ≡ Millionths (ratio_of s d)
+  pub answered : nat_abs s < 1_000_000 * nat_abs d → hedge_of s d ≡ Ok (ratio_of s d)
   unfolding hedge_of
   answered l = simp (ne_eqb (nat_abs d) 0 (λ e. omega arith), lt-leb (1_000_000 * nat_abs d) (nat_abs s) l)
 

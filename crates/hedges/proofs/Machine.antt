@@ -1,22 +1,13 @@
 -- From the machine's reading of an i64 to the number. A signed local holds bits, and an operation on it reads `to_z w64` of them and writes `of_z w64` of its result.
 -- So each operation is one equation, from what it reads to the number that is meant, and a bound on that number: `fits_of` answers its need, and `back` is the equation for the next operation.
-use mathlib.Core.Path.{◌≡◌, sym, ◌∙◌, subst}
-use mathlib.Core.Bool.{Bool}
-use Prim.Native.Nat.{ℕ, ◌<◌, ◌^◌}
-use native.Mathlib.Omega.{arith}
-use lib.IntN.{ℤ, pos, negsuc, nat_abs}
-use mir.Syntax.{w64}
-use mir.Val.{SFits, to_z, of_z}
+use Rattle.std.proofs.Common.{◌≡◌, sym, ◌∙◌, subst, Bool, ℕ, ◌<◌, ◌^◌, ℤ, pos, nat_abs, w64, SFits, to_z, of_z}
 use mir.ValLaws.{to_z-of_z, to_z_pos}
+use Rattle.std.proofs.lemmas.Int.{fits_signed_from_abs}
 use Rattle.hedges.specs.Hedges.{with_sign}
 use Rattle.hedges.proofs.Signs.{size_of}
 
-small : (z : ℤ) → nat_abs z < 2 ^ 63 → SFits w64 z
-small (pos n) h = record { sfits = h }
-small (negsuc n) h = record { sfits = omega arith }
-
 pub fits_of : {z z' : ℤ} → z ≡ z' → nat_abs z' < 2 ^ 63 → SFits w64 z
-fits_of {z} {z'} e h = subst (SFits w64) (sym e) (small z' h)
+fits_of {z} {z'} e h = subst (SFits w64) (sym e) (fits_signed_from_abs w64 z' h)
 
 pub back : {z z' : ℤ} → z ≡ z' → nat_abs z' < 2 ^ 63 → to_z w64 (of_z w64 z) ≡ z'
 back {z} e h = to_z-of_z w64 z (fits_of e h) ∙ e

@@ -1,14 +1,10 @@
 -- A signed number that the machine reads, the number that is meant, and a bound on its size. A chain of operations is built as the code builds it: `fits` answers an operation's need, and `read` takes its result to the next.
 -- `Is` is a record, so that its three arguments are inferred from what a chain is built of.
-use mathlib.Core.Path.{◌≡◌, refl, sym, subst}
-use Prim.Native.Nat.{ℕ, ◌+◌, ◌*◌, ◌≤◌, ◌<◌, ◌^◌}
-use native.Mathlib.Nat.{le_refl, mul-le-mul}
-use native.Mathlib.Omega.{arith}
-use lib.IntN.{ℤ, pos, nat_abs, ◌+ℤ◌, ◌-ℤ◌, ◌*ℤ◌}
-use mir.Syntax.{w64}
-use mir.Val.{SFits, to_z, of_z}
+use Rattle.std.proofs.Common.{◌≡◌, refl, sym, subst, ℕ, ◌+◌, ◌*◌, ◌≤◌, ◌<◌, ◌^◌, le_refl, mul-le-mul, arith, ℤ, pos, nat_abs, ◌+ℤ◌, ◌-ℤ◌, ◌*ℤ◌, w64}
+use Rattle.std.proofs.Common.{SFits, to_z, of_z}
+use Rattle.std.proofs.lemmas.Int.{unsigned_abs-mul}
 use Rattle.hedges.proofs.Machine.{fits_of, back, two, from_nat}
-use Rattle.hedges.proofs.Signs.{size_plus, size_minus, size_times}
+use Rattle.hedges.proofs.Signs.{size_plus, size_minus}
 
 pub record Is (z z' : ℤ) (n : ℕ) : Type 0 where
   pub is : z ≡ z'
@@ -25,10 +21,6 @@ lit n = record { is = refl; within = le_refl n }
 pub nat : (n : ℕ) {m : ℕ} → n ≤ m → m < 2 ^ 63 → Is (to_z w64 n) (pos n) m
 nat n h k = record { is = from_nat n (omega arith); within = h }
 
--- that it may be cast
-pub casts : (n : ℕ) {m : ℕ} → n ≤ m → m < 2 ^ 63 → SFits w64 (pos n)
-casts n h k = record { sfits = omega arith }
-
 module _ {x x' y y' : ℤ} {m n : ℕ} (p : Is x x' m) (q : Is y y' n) where
   pub add : Is (x +ℤ y) (x' +ℤ y') (m + n)
   add = record { is = two ◌+ℤ◌ p.is q.is; within = omega (arith, size_plus x' y') }
@@ -37,7 +29,7 @@ module _ {x x' y y' : ℤ} {m n : ℕ} (p : Is x x' m) (q : Is y y' n) where
   sub = record { is = two ◌-ℤ◌ p.is q.is; within = omega (arith, size_minus x' y') }
 
   pub mul : Is (x *ℤ y) (x' *ℤ y') (m * n)
-  mul = record { is = two ◌*ℤ◌ p.is q.is; within = subst (λ (t : ℕ). t ≤ m * n) (sym (size_times x' y')) (mul-le-mul p.within q.within) }
+  mul = record { is = two ◌*ℤ◌ p.is q.is; within = subst (λ (t : ℕ). t ≤ m * n) (sym (unsigned_abs-mul x' y')) (mul-le-mul p.within q.within) }
 
 module _ {z z' : ℤ} {n : ℕ} (p : Is z z' n) (h : n < 2 ^ 63) where
   pub fits : SFits w64 z

@@ -1,13 +1,9 @@
 -- Numbers of either sign by sign and size: what the machine's operations do to each.
-use mathlib.Core.Path.{◌≡◌, refl, sym, ap}
-use mathlib.Core.Bool.{Bool, true, false, not, cond}
-use Prim.Native.Nat.{ℕ, zero, suc, ◌+◌, ◌-◌, ◌*◌, ◌/◌, ◌%◌, ◌<◌, ◌≤◌, zero-le}
-use native.Mathlib.Nat.{zero-div, zero-mod, zero-mul}
-use borrow.Author.Tests.{le-ltb, ltb-true}
-use lib.Dec.{ltb, leb-zero}
-use native.Mathlib.Omega.{arith}
-use lib.IntN.{ℤ, pos, negsuc, nat_abs, neg_ℤ, ◌+ℤ◌, ◌-ℤ◌, ◌*ℤ◌, sub_ℕ, neg_ℤ-+ℤ}
-use lib.Signed.{quot_z, rem_z, lt_z, le_z}
+use Rattle.std.proofs.Common.{◌≡◌, refl, sym, ap, Bool, true, false, cond, ℕ, zero, suc, ◌+◌, ◌-◌, ◌*◌, ◌/◌, ◌%◌, ◌<◌, ◌≤◌, zero-mul, ltb-true, ltb}
+use Rattle.std.proofs.Common.{arith, ℤ, pos, negsuc, nat_abs, neg_ℤ, ◌+ℤ◌, ◌-ℤ◌, ◌*ℤ◌}
+use native.Mathlib.Nat.{zero-div, zero-mod}
+use lib.IntN.{sub_ℕ, neg_ℤ-+ℤ}
+use lib.Signed.{quot_z, rem_z}
 use Rattle.hedges.specs.Hedges.{negative, unlike, with_sign}
 
 pub signed_of : (z : ℤ) → z ≡ with_sign (negative z) (nat_abs z)
@@ -52,15 +48,6 @@ rem true t zero b = simp (size_of t b, zero-mod)
 rem true t (suc a) b = simp (size_of t b)
 rem false t a b = simp (size_of t b)
 
--- ---- tests against 0
-pub below_zero : (z : ℤ) → lt_z z (pos 0) ≡ negative z
-below_zero (pos n) = le-ltb n 0 zero-le
-below_zero (negsuc n) = refl
-
-pub from_zero : (z : ℤ) → le_z (pos 0) z ≡ not (negative z)
-from_zero (pos n) = leb-zero n
-from_zero (negsuc n) = refl
-
 -- ---- sizes
 
 -- the difference of two numbers is no larger than a bound of both
@@ -95,9 +82,3 @@ size_neg (negsuc n) = refl
 
 pub size_minus : (x y : ℤ) → nat_abs (x -ℤ y) ≤ nat_abs x + nat_abs y
 size_minus x y = omega (arith, size_plus x (neg_ℤ y), size_neg y)
-
-pub size_times : (x y : ℤ) → nat_abs (x *ℤ y) ≡ nat_abs x * nat_abs y
-size_times (pos a) (pos b) = refl
-size_times (pos a) (negsuc b) = size_neg (pos (a * suc b))
-size_times (negsuc a) (pos b) = size_neg (pos (suc a * b))
-size_times (negsuc a) (negsuc b) = refl

@@ -1,9 +1,11 @@
 -- Net value, jump and hedge ratio, whole numbers of either sign (document 01, 'Walking back' and 'Hedge ratio').
 use Rattle.std.specs.Prelude.{Bool, true, false, not, cond, ◌≡◌, ℕ, ◌+◌, ◌*◌, ◌/◌, ◌≤◌, ◌<◌, eqb, leb, ℤ, pos, negsuc, neg_ℤ, nat_abs, ◌+ℤ◌, ◌-ℤ◌, ◌*ℤ◌}
+use Rattle.std.specs.declared.result.Result.{Result}
+use Rattle.std.specs.declared.result.Result.TheVariants.{Ok, Err}
 use Rattle.cash.specs.Units.{B}
 use Rattle.hedges.specs.declared.Node.{Node}
-use Rattle.hedges.specs.declared.Hedge.{Hedge}
-use Rattle.hedges.specs.declared.Hedge.TheVariants.{Millionths, Flat, OffScale}
+use Rattle.hedges.specs.declared.NoRatio.{NoRatio}
+use Rattle.hedges.specs.declared.NoRatio.TheVariants.{Flat, OffScale}
 
 -- The net value W of a default leg D and a premium leg A.
 unfoldable pub net_value : ℕ → ℕ → ℕ → ℤ
@@ -47,21 +49,25 @@ millionths s d = (2 * (s * 1_000_000) + d) / (2 * d)
 unfoldable pub ratio_of : ℤ → ℤ → ℤ
 ratio_of tranche index = with_sign (unlike (negative tranche) (negative index)) (millionths (nat_abs tranche) (nat_abs index))
 
+-- A hedge ratio in millionths, or why there is none.
+abbrev pub Hedge : Type 0
+Hedge = Result ℤ NoRatio
+
 -- The hedge ratio: refused where the index does not jump, or the tranche jumps at least 1,000,000 times as far.
 unfoldable pub hedge_of : ℤ → ℤ → Hedge
 hedge_of tranche index =
-    cond (eqb (nat_abs index) 0) Flat
-    (cond (leb (1_000_000 * nat_abs index) (nat_abs tranche)) OffScale
-    (Millionths (ratio_of tranche index)))
+    cond (eqb (nat_abs index) 0) (Err Flat)
+    (cond (leb (1_000_000 * nat_abs index) (nat_abs tranche)) (Err OffScale)
+    (Ok (ratio_of tranche index)))
 
 -- Document 01's number of each answer: 0 for a ratio, 15 flat hedge, 16 off scale.
 abbrev pub hedge_number : Hedge → ℕ
-hedge_number (Millionths z) = 0
-hedge_number Flat = 15
-hedge_number OffScale = 16
+hedge_number (Ok z) = 0
+hedge_number (Err Flat) = 15
+hedge_number (Err OffScale) = 16
 
 -- What document 01 says of an answer, as plain propositions.
 pub record Hedges (tranche index : ℤ) (answer : Hedge) : Type 0 where
   pub flat : nat_abs index ≡ 0 → hedge_number answer ≡ 15
   pub off_scale : 0 < nat_abs index → 1_000_000 * nat_abs index ≤ nat_abs tranche → hedge_number answer ≡ 16
-  pub on_scale : 0 < nat_abs index → nat_abs tranche < 1_000_000 * nat_abs index → answer ≡ Millionths (ratio_of tranche index)
+  pub on_scale : 0 < nat_abs index → nat_abs tranche < 1_000_000 * nat_abs index → answer ≡ Ok (ratio_of tranche index)

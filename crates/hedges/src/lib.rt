@@ -15,6 +15,7 @@ ghost use Rattle.hedges.specs.Hedges.{
 };
 
 // W = 10,000,000 × D - coupon × A.
+#[tactic(auto, unfolding(cash::specs::Units::B, crate::specs::Hedges::net_value))]
 pub fn net_value(d: u64, coupon: u64, a: u64) -> i64
     requires { (d ≤ B) × (coupon ≤ 10_000_000) × (a ≤ 18 * B) }
     ensures { result ≡ net_value d coupon a }
@@ -31,6 +32,7 @@ pub struct Node {
 }
 
 // How far a figure goes up, or down.
+#[tactic(auto, unfolding(cash::specs::Units::B, crate::specs::Hedges::change_of))]
 fn change(before: u64, after: u64) -> i64
     requires { (before ≤ 18 * B) × (after ≤ 18 * B) }
     ensures { result ≡ change_of before after }
@@ -47,28 +49,23 @@ pub fn jump(coupon: u64, here: Node, next: Node) -> i64
         - (coupon as i64) * change(here.premium, next.premium)
 }
 
-// x without its sign. The least i64 has no negation, but one more than it has.
+// x without its sign.
 pub fn magnitude(x: i64) -> u64
     ensures { result ≡ nat_abs x }
 {
-    if x < 0 {
-        (-(x + 1)) as u64 + 1
-    } else {
-        x as u64
-    }
+    x.unsigned_abs()
 }
 
 // Whether one of the two is negative and the other is not.
 pub fn unlike_signs(x: i64, y: i64) -> bool
     ensures { result ≡ unlike (negative x) (negative y) }
 {
-    if x < 0 { y >= 0 } else { y < 0 }
+    (x < 0) != (y < 0)
 }
 
-// A hedge ratio, or why there is none.
-#[derive(Clone, Copy)]
-pub enum Hedge {
-    Millionths(i64),
+// Why there is no hedge ratio.
+#[derive(Clone, Copy, PartialEq, Eq, Debug)]
+pub enum NoRatio {
     // 15, flat hedge: the index does not jump
     Flat,
     // 16, off scale
@@ -76,30 +73,28 @@ pub enum Hedge {
 }
 
 // The tranche's jump over the index's in millionths, a half away from zero: a long division, since the jump × 10^6 does not fit 64 bits.
-pub fn hedge_ratio(tranche: i64, index: i64) -> Hedge
+pub fn hedge_ratio(tranche: i64, index: i64) -> Result<i64, NoRatio>
     requires { (nat_abs tranche ≤ 200_000_000_000_000_000) × (nat_abs index ≤ 200_000_000_000_000_000) }
     ensures { result ≡ hedge_of tranche index }
 {
     if index == 0 {
-        return Hedge::Flat;
+        return Err(NoRatio::Flat);
     }
     let mut quotient = tranche / index;
     let mut rest = tranche % index;
-    if magnitude(quotient) >= 1_000_000 {
-        return Hedge::OffScale;
+    if quotient.unsigned_abs() >= 1_000_000 {
+        return Err(NoRatio::OffScale);
     }
-    let mut digits: u8 = 0;
-    while digits < 6 {
+    for _ in 0..6_u8 {
         quotient = quotient * 10 + rest * 10 / index;
         rest = rest * 10 % index;
-        digits += 1;
     }
-    if magnitude(rest) * 2 < magnitude(index) {
-        return Hedge::Millionths(quotient);
+    if rest.unsigned_abs() * 2 < index.unsigned_abs() {
+        return Ok(quotient);
     }
     if unlike_signs(tranche, index) {
-        Hedge::Millionths(quotient - 1)
+        Ok(quotient - 1)
     } else {
-        Hedge::Millionths(quotient + 1)
+        Ok(quotient + 1)
     }
 }

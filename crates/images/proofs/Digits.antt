@@ -1,23 +1,12 @@
 -- The test of the digits, and that none is above 9.
-use Prim.Native.Nat.{ℕ, zero, suc, ◌/◌, ◌%◌, ◌<◌}
-use mathlib.Core.Path.{◌≡◌, refl}
-use mathlib.Core.Bool.{Bool, true, false, ◌||◌, true≢false}
-use mathlib.Core.List.{List}
-use native.Mathlib.Omega.{arith}
-use borrow.Author.Tests.{le-ltb, ltb-false}
-use lib.Dec.{ltb}
-use lib.ListN.{length, get_or}
+use Rattle.std.proofs.Common.{ℕ, zero, suc, ◌/◌, ◌%◌, ◌<◌, ◌≡◌, refl, Bool, true, false, List, arith, le-ltb, ltb-false, length, get_or}
+use Rattle.std.proofs.lemmas.Bool.{or_parts}
 use Rattle.images.specs.Images.{Digits, above_nine, digits_bad}
 use Rattle.images.proofs.Images.{Pair}
 
-neither : (a b : Bool) → (a || b) ≡ false → (a ≡ false) × (b ≡ false)
-neither false false e = (refl, refl)
-neither false true e = absurd (true≢false e)
-neither true b e = absurd (true≢false e)
-
 good_pair : (byte : ℕ) → above_nine byte ≡ false → Pair byte
 unfolding above_nine
-good_pair byte e = let (h, l) = neither (ltb 9 (byte / 16)) (ltb 9 (byte % 16)) e in (ltb-false 9 (byte / 16) h, ltb-false 9 (byte % 16) l)
+good_pair byte e = let (h, l) = or_parts _ _ e in (ltb-false 9 (byte / 16) h, ltb-false 9 (byte % 16) l)
 
 pair_good : (byte : ℕ) → Pair byte → above_nine byte ≡ false
 unfolding above_nine
@@ -28,9 +17,9 @@ module _ (l : List ℕ) (size : length l ≡ 4) where
   pub good_digits : digits_bad l ≡ false → Digits l
   unfolding digits_bad
   good_digits e i h =
-      let (a, r) = neither (above_nine (get_or l 0 0)) _ e in
-      let (b, q) = neither (above_nine (get_or l 1 0)) _ r in
-      let (c, d) = neither (above_nine (get_or l 2 0)) _ q in
+      let (a, r) = or_parts (above_nine (get_or l 0 0)) _ e in
+      let (b, q) = or_parts (above_nine (get_or l 1 0)) _ r in
+      let (c, d) = or_parts (above_nine (get_or l 2 0)) _ q in
       go i (omega arith) a b c d
     where
       go : (i : ℕ) → i < 4 → above_nine (get_or l 0 0) ≡ false → above_nine (get_or l 1 0) ≡ false → above_nine (get_or l 2 0) ≡ false →

@@ -1,24 +1,11 @@
 -- Images of coupons: the one that `image_of` makes, and no other.
-use Prim.Native.Nat.{ℕ, zero, suc, ◌+◌, ◌*◌, ◌/◌, ◌%◌, ◌≤◌, ◌<◌}
-use mathlib.Core.Path.{◌≡◌, refl, sym, ◌∙◌, ap}
-use mathlib.Core.List.{List, [], ◌∷◌}
-use native.Mathlib.Omega.{arith}
-use lib.ListN.{length, get_or, set}
+use Rattle.std.proofs.Common.{ℕ, zero, suc, ◌+◌, ◌*◌, ◌/◌, ◌%◌, ◌≤◌, ◌<◌, ◌≡◌, refl, sym, ◌∙◌, ap, List, [], ◌∷◌, arith, length, get_or}
 use Rattle.images.specs.Images.{two_digits, packed_value, Digits, IsImage, digit_pair, image_of, OneImage}
 
 -- ---- four bytes
 
 never_four : {A : Type 0} (n : ℕ) → suc (suc (suc (suc (suc n)))) ≡ 4 → A
 never_four n e = absurd (omega arith)
-
--- Four bytes written over four are what is left.
-pub filled : (l : List ℕ) (a b c d : ℕ) → length l ≡ 4 → set (set (set (set l 0 a) 1 b) 2 c) 3 d ≡ a ∷ b ∷ c ∷ d ∷ []
-filled [] a b c d e = absurd (omega arith)
-filled (w ∷ []) a b c d e = absurd (omega arith)
-filled (w ∷ x ∷ []) a b c d e = absurd (omega arith)
-filled (w ∷ x ∷ y ∷ []) a b c d e = absurd (omega arith)
-filled (w ∷ x ∷ y ∷ z ∷ []) a b c d e = refl
-filled (w ∷ x ∷ y ∷ z ∷ v ∷ l) a b c d e = never_four (length l) e
 
 -- Four bytes are known by their places.
 pub four_bytes : (l : List ℕ) → length l ≡ 4 → l ≡ get_or l 0 0 ∷ get_or l 1 0 ∷ get_or l 2 0 ∷ get_or l 3 0 ∷ []
@@ -92,7 +79,7 @@ module _ (x y z w : ℕ) (hx : x < 100) (hy : y < 100) (hz : z < 100) (hw : w < 
   fourth = omega arith
 
 -- Four bytes that are the same, place by place.
-pub same_four : {a b c d e f g h : ℕ} → a ≡ e → b ≡ f → c ≡ g → d ≡ h → ◌≡◌ {A = List ℕ} (a ∷ b ∷ c ∷ d ∷ []) (e ∷ f ∷ g ∷ h ∷ [])
+same_four : {a b c d e f g h : ℕ} → a ≡ e → b ≡ f → c ≡ g → d ≡ h → ◌≡◌ {A = List ℕ} (a ∷ b ∷ c ∷ d ∷ []) (e ∷ f ∷ g ∷ h ∷ [])
 same_four p q r s = cc
 
 -- Four bytes of digits are the image of their number, whatever it is.

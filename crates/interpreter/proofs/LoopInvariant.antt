@@ -1,12 +1,6 @@
 -- The commands of a deck, one after the other, on plain values.
-use Prim.Native.Nat.{ℕ, zero, suc, ◌+◌, ◌*◌, ◌-◌, ◌≤◌, ◌<◌}
-use mathlib.Core.Path.{◌≡◌, refl, sym, ap, ◌∙◌, subst}
-use mathlib.Core.Bool.{Bool, true, false}
-use mathlib.Core.List.{List, [], ◌∷◌, ◌++◌, append_assoc, append-nil}
-use native.Mathlib.Omega.{arith}
-use borrow.Author.Tests.{lt-ltb, le-ltb}
-use lib.ListN.{length, get_or, take, drop}
-use lib.Seq.{drop-cons}
+use Rattle.std.proofs.Common.{ℕ, zero, suc, ◌+◌, ◌*◌, ◌≤◌, ◌<◌, ◌≡◌, sym, ap, ◌∙◌, subst, subst₂, false, List, [], ◌∷◌, ◌++◌, append_assoc}
+use Rattle.std.proofs.Common.{append-nil, arith, length, get_or, take, drop-cons}
 use Rattle.lines.specs.Text.{Wrote}
 use Rattle.lines.proofs.Laws.{wrote_both, wrote_text, wrote_none, wrote_long}
 use Rattle.commands.specs.Commands.{command_at}
@@ -19,8 +13,11 @@ use Rattle.entries.specs.Layouts.{elapsed_at, LayoutLimits, Blank}
 use Rattle.entries.proofs.Entering.{empty_limits}
 use Rattle.machine.specs.Machine.{Machine, machine_of}
 use Rattle.execution.specs.declared.Progress.{Progress}
-use Rattle.listings.specs.Effects.{stop, go_on, effect_of}
-use Rattle.execution.specs.Executions.{start_progress, machine_at, effect_by, Execution}
+use Rattle.listings.specs.Effects.{effect_of}
+use Rattle.execution.specs.Executions.{start_progress, machine_at, GoesOn, Ends}
+use Rattle.commands.specs.declared.Stop.{Stop}
+use Rattle.commands.specs.Kinds.{refusal_of}
+use Rattle.render.specs.Lines.{deck_line}
 use Rattle.listings.specs.ListingFrom.{listing_from}
 use Rattle.listings.proofs.Laws.{past, left_past, on, left_on, last, left_last}
 use Rattle.listings.specs.RegisterFrom.{register_from}
@@ -38,8 +35,8 @@ pub record Invariant (all left deck before out : List ℕ) (p : Progress) (m : M
   pub within : p.end ≤ length before
 
 -- Where it ends: all was written, and the register is what was to be left.
-abbrev pub Finished : (all left before out : List ℕ) → Progress → List ℕ → Type 0
-Finished all left before out p register = Wrote before 0 all out p.end × (p.end ≤ length before) × (register ≡ left)
+abbrev pub Finished : (all left before out : List ℕ) → ℕ → List ℕ → Type 0
+Finished all left before out end register = Wrote before 0 all out end × (end ≤ length before) × (register ≡ left)
 
 -- the one start stands behind the room for entries
 one_start : (numbers : List ℕ) → length numbers ≡ elapsed_at + 3650 → get_or numbers 7443 0 ≡ 1 → list_in (record { at = 7443; length = 1 }) numbers ≡ 1 ∷ []
@@ -84,45 +81,51 @@ pub line_fits : {all left deck before out : List ℕ} {p : Progress} {m : Machin
     32 * length deck + 96 ≤ length before → p.end + 96 ≤ length out
 line_fits r h long = omega (arith, r.room, wrote_long r.wrote)
 
-module _ (all left deck before out after : List ℕ) (p : Progress) (m t : Machine) (r : Progress) (h : p.at < length deck)
-    (long : 32 * length deck + 96 ≤ length before) (g : Execution (effect_of (command_at deck p.at) p.at m) p out after r t) where
-  effect_as : {b : Bool} → r.stopped ≡ b → effect_of (command_at deck p.at) p.at m ≡ effect_by b g.text r.at t
-  effect_as q = g.effect_is ∙ ap (λ (b : Bool). effect_by b g.text r.at t) q
+module _ (all left deck before out after : List ℕ) (p : Progress) (m : Machine) (h : p.at < length deck)
+    (long : 32 * length deck + 96 ≤ length before) where
+  -- a command that goes on
+  module _ (t : Machine) (r : Progress) (g : GoesOn (effect_of (command_at deck p.at) p.at m) p out after r t) where
+    step_on : (n : ℕ) → length deck ≤ p.at + n → (text : List ℕ) → Wrote before 0 text out p.end → all ≡ text ++ listing_from n deck p.at m →
+        left ≡ register_from n deck p.at m → p.end ≤ 32 * p.at → Invariant all left deck before after r t
+    step_on zero en text wr rest kept room = absurd (omega arith)
+    step_on (suc n) en text wr rest kept room =
+        record {
+          commands = n;
+          enough = omega (arith, g.onward);
+          text = text ++ g.text;
+          wrote = wrote_both wr g.wrote;
+          rest =
+              rest ∙ ap (λ (l : List ℕ). text ++ l) (on deck p.at m n g.text r.at t h g.effect_is)
+              ∙ sym (append_assoc text g.text (listing_from n deck r.at t));
+          kept = kept ∙ left_on deck p.at m n g.text r.at t h g.effect_is;
+          room = omega (arith, g.short);
+          within = omega (arith, g.room);
+        }
 
-  step_on : (n : ℕ) → length deck ≤ p.at + n → (text : List ℕ) → Wrote before 0 text out p.end → all ≡ text ++ listing_from n deck p.at m →
-      left ≡ register_from n deck p.at m → p.end ≤ 32 * p.at → r.stopped ≡ false → Invariant all left deck before after r t
-  step_on zero en text wr rest kept room q = absurd (omega arith)
-  step_on (suc n) en text wr rest kept room q =
-      record {
-        commands = n;
-        enough = omega (arith, g.onward q);
-        text = text ++ g.text;
-        wrote = wrote_both wr g.wrote;
-        rest =
-            rest ∙ ap (λ (l : List ℕ). text ++ l) (on deck p.at m n g.text r.at t h (effect_as q))
-            ∙ sym (append_assoc text g.text (listing_from n deck r.at t));
-        kept = kept ∙ left_on deck p.at m n g.text r.at t h (effect_as q);
-        room = omega (arith, g.short q);
-        within = omega (arith, g.room);
-      }
+    pub holds_on : Invariant all left deck before out p m → Invariant all left deck before after r t
+    holds_on i = step_on i.commands i.enough i.text i.wrote i.rest i.kept i.room
 
-  step_last : (n : ℕ) → length deck ≤ p.at + n → (text : List ℕ) → Wrote before 0 text out p.end → all ≡ text ++ listing_from n deck p.at m →
-      left ≡ register_from n deck p.at m → p.end ≤ 32 * p.at → r.stopped ≡ true → Finished all left before after r m.register
-  step_last zero en text wr rest kept room q = absurd (omega arith)
-  step_last (suc n) en text wr rest kept room q = (
-    wrote_text (sym (rest ∙ ap (λ (l : List ℕ). text ++ l) (last deck p.at m n g.text h (effect_as q)))) (wrote_both wr g.wrote),
-    omega (arith, g.room),
-    sym (kept ∙ left_last deck p.at m n g.text h (effect_as q)),
-  )
+  -- one that ends the run: its line comes last
+  module _ {s : Stop} (g : Ends (effect_of (command_at deck p.at) p.at m) p out after s) {number end : ℕ} {printed : List ℕ} (is : number ≡ refusal_of s)
+      (w : Wrote after p.end (deck_line number p.at) printed end) (short : end ≤ p.end + 30) where
+    line : Wrote out p.end (deck_line (refusal_of s) p.at) printed end
+    line =
+        subst₂ (λ (o : List ℕ) (k : ℕ). Wrote o p.end (deck_line k p.at) printed end) g.unwritten is w
 
-  pub holds_on : Invariant all left deck before out p m → r.stopped ≡ false → Invariant all left deck before after r t
-  holds_on i q = step_on i.commands i.enough i.text i.wrote i.rest i.kept i.room q
+    step_last : (n : ℕ) → length deck ≤ p.at + n → (text : List ℕ) → Wrote before 0 text out p.end → all ≡ text ++ listing_from n deck p.at m →
+        left ≡ register_from n deck p.at m → p.end ≤ 32 * p.at → Finished all left before printed end m.register
+    step_last zero en text wr rest kept room = absurd (omega arith)
+    step_last (suc n) en text wr rest kept room = (
+      wrote_text (sym (rest ∙ ap (λ (l : List ℕ). text ++ l) (last deck p.at m n (deck_line (refusal_of s) p.at) h g.effect_is))) (wrote_both wr line),
+      omega arith,
+      sym (kept ∙ left_last deck p.at m n (deck_line (refusal_of s) p.at) h g.effect_is),
+    )
 
-  pub finished_last : Invariant all left deck before out p m → r.stopped ≡ true → Finished all left before after r m.register
-  finished_last i q = step_last i.commands i.enough i.text i.wrote i.rest i.kept i.room q
+    pub finished_last : Invariant all left deck before out p m → Finished all left before printed end m.register
+    finished_last i = step_last i.commands i.enough i.text i.wrote i.rest i.kept i.room
 
 pub finished_all : {all left deck before out : List ℕ} {p : Progress} {m : Machine} → Invariant all left deck before out p m → length deck ≤ p.at →
-    Finished all left before out p m.register
+    Finished all left before out p.end m.register
 finished_all {deck = deck} {p = p} {m = m} i h = (
   wrote_text (sym (i.rest ∙ ap (λ (l : List ℕ). i.text ++ l) (past deck p.at m i.commands h) ∙ append-nil i.text)) i.wrote,
   i.within,

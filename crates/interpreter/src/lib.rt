@@ -35,11 +35,14 @@ pub fn interpret(
 {
     let mut progress = execution::start();
     while progress.at < deck.len() {
-        progress = execution::execute(
+        let executed = execution::execute(
             deck, progress, numbers, register, defaults, premiums, row, out,
         );
-        if progress.stopped {
-            return progress.end;
+        match executed {
+            Ok(next) => progress = next,
+            Err(stop) => {
+                return render::put_deck(out, progress.end, u8::from(stop), progress.at);
+            }
         }
     }
     progress.end

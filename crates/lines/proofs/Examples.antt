@@ -1,7 +1,5 @@
 -- Numbers as the definitions print them.
-use mathlib.Core.Path.{◌≡◌, refl}
-use mathlib.Core.List.{[], ◌∷◌}
-use lib.IntN.{pos, negsuc}
+use Rattle.std.proofs.Common.{◌≡◌, refl, [], ◌∷◌, pos, negsuc}
 use Rattle.lines.specs.Text.{decimal, signed, field}
 
 zero_is : decimal 0 ≡ 48 ∷ []

@@ -1,17 +1,8 @@
 -- Laws of the definitions that the contracts of `lines` cite.
-use Prim.Native.Nat.{ℕ, zero, suc, ◌+◌, ◌/◌, ◌%◌, ◌^◌, ◌≤◌, ◌<◌}
-use mathlib.Core.Path.{◌≡◌, refl, sym, ap, ◌∙◌, subst}
-use mathlib.Core.Bool.{Bool, true, false}
-use mathlib.Core.Logic.{◌⊎◌, inl, inr, ⊎_elim}
-use mathlib.Core.List.{List, [], ◌∷◌, ◌++◌}
-use native.Mathlib.Nat.{add-zero, add-suc, suc-add, pow-suc}
-use native.Mathlib.Numerals.{add-one}
-use native.Mathlib.Omega.{arith}
-use borrow.Author.Tests.{lt-ltb, le-ltb, ltb-true, ltb-false}
-use lib.Dec.{ltb, lit≤}
-use lib.IntN.{ℤ, pos, negsuc, nat_abs}
-use lib.ListN.{length, take, drop, get_or, set, length-append}
-use lib.Seq.{sets, sets-eq, length-sets, take_at, take-suc, length-take-le}
+use Rattle.std.proofs.Common.{ℕ, zero, suc, ◌+◌, ◌/◌, ◌%◌, ◌^◌, ◌≤◌, ◌<◌, ◌≡◌, refl, sym, ap, ◌∙◌, subst, Bool, true, false, ◌⊎◌, inl, inr, ⊎_elim}
+use Rattle.std.proofs.Common.{List, [], ◌∷◌, ◌++◌, add-zero, add-suc, suc-add, pow-suc, arith, lt-ltb, le-ltb, ltb-true, ltb-false, ltb, lit≤, ℤ, pos}
+use Rattle.std.proofs.Common.{negsuc, nat_abs, length, take, drop, set, length-append, take_at, length-take-le}
+use lib.Seq.{sets, sets-eq, length-sets}
 use Rattle.lines.specs.Text.{spell, decimal, signed, field, Wrote}
 
 by_test : (n m : ℕ) (t : Bool) → ltb n m ≡ t → (n < m) ⊎ (m ≤ n)
@@ -25,13 +16,6 @@ lt_or_ge n m = by_test n m (ltb n m) refl
 pub sets_append : (l : List ℕ) (i : ℕ) (a b : List ℕ) → sets (sets l i a) (i + length a) b ≡ sets l i (a ++ b)
 sets_append l i [] b = rw add-zero
 sets_append l i (x ∷ a) b = rw (add-suc, ← suc-add) (sets_append (set l i x) (suc i) a b)
-
--- one byte more of text
-pub sets_more : (l : List ℕ) (i : ℕ) (text : List ℕ) (j : ℕ) → j < length text → set (sets l i (take j text)) (i + j) (get_or text j 0) ≡ sets l i (take (j + 1) text)
-sets_more l i text j h =
-    ap (λ (k : ℕ). set (sets l i (take j text)) (i + k) (get_or text j 0)) (sym (length-take-le j text (omega arith)))
-    ∙ sets_append l i (take j text) (get_or text j 0 ∷ [])
-    ∙ ap (sets l i) (sym (take-suc text j 0 h) ∙ ap (λ (k : ℕ). take k text) (sym (add-one j)))
 
 -- enough fuel is enough
 pub spell_fuel : (f g n : ℕ) → n ≤ f → n ≤ g → spell f n ≡ spell g n

@@ -1,14 +1,6 @@
 -- How the sign of an `i64` is written.
-use Prim.Native.Nat.{◌<◌}
-use mathlib.Core.Path.{◌≡◌, refl}
-use mathlib.Core.Bool.{Bool, true, false}
-use mathlib.Core.List.{◌∷◌}
-use native.Mathlib.Omega.{arith}
-use borrow.Author.Tests.{ltb-true}
-use lib.IntN.{ℤ, pos, negsuc, nat_abs}
+use Rattle.std.proofs.Common.{◌<◌, ◌≡◌, refl, Bool, true, false, ◌∷◌, arith, ltb-true, ℤ, pos, negsuc, nat_abs, w64, SFits}
 use lib.Signed.{lt_z}
-use mir.Syntax.{w64}
-use mir.Val.{SFits}
 use Rattle.hedges.proofs.Negated.{read, read_is, true_ne_false}
 use Rattle.lines.specs.Text.{decimal, signed}
 

@@ -13,12 +13,9 @@ pub fn put_bytes(out: &mut [u8], at: usize, text: &[u8]) -> usize
     requires { at + length text.now ≤ length out.old }
     ensures { Wrote out.old at text.now out.new result }
 {
-    let mut i = 0;
-    while i < text.len() {
-        out[at + i] = text[i];
-        i += 1;
-    }
-    at + i
+    let end = at + text.len();
+    out[at..end].copy_from_slice(text);
+    end
 }
 
 // Writes n in decimal, the leading digits first.
@@ -58,7 +55,7 @@ pub fn put_field(out: &mut [u8], at: usize, x: i64) -> usize
     put_signed(out, at + 1, x)
 }
 
-// Writes an unsigned field: a space and n.
+// Writes an unsigned field: a space and n. (Not one with the signed field: a trait for two types is longer than these lines.)
 pub fn put_count(out: &mut [u8], at: usize, n: u64) -> usize
     requires { at + length (field (pos n)) ≤ length out.old }
     ensures { Wrote out.old at (field (pos n)) out.new result }

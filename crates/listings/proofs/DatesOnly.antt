@@ -1,18 +1,18 @@
 -- A deck whose orders meet no fraction but 0 prints and leaves what it did: its rows keep to the earlier ceiling wherever 12 is asked.
-use Prim.Native.Nat.{ℕ, zero, suc, ◌+◌, ◌-◌, ◌*◌, ◌≤◌, ◌<◌, min}
-use mathlib.Core.Path.{◌≡◌, refl, sym, ap, ◌∙◌, subst}
-use mathlib.Core.Bool.{Bool, true, false, not, ◌&&◌, ◌||◌, true≢false, false≢true}
-use mathlib.Core.List.{List, [], ◌∷◌, ◌++◌}
-use native.Mathlib.Nat.{le_of_eq}
-use native.Mathlib.Omega.{arith}
+use Rattle.refusals.specs.declared.Refusal.{Refusal}
+use Rattle.std.specs.Prelude.{Result, Ok, Err, ⊤}
+use mathlib.Core.Bool.{false≢true}
 use native.Mathlib.Decide.{dec_le}
-use borrow.Author.Tests.{le-leb, lt-leb, eqb-false}
+use borrow.Author.Tests.{lt-leb, eqb-false}
 use lib.Arith.{digits_lt}
-use lib.Dec.{leb, ltb, eqb}
-use lib.ListN.{length, get_or, replicate, take, drop, take-append-drop, length-append, get_or-append}
-use lib.Seq.{get_or-take}
+use lib.ListN.{get_or-append}
 use Rattle.commands.specs.declared.Command.{Command}
-use Rattle.commands.specs.declared.Command.TheVariants.{Enter, Act, Unknown, CutShort}
+use Rattle.commands.specs.declared.Command.TheVariants.{Enter, Act}
+use Rattle.commands.specs.declared.Stop.{Stop}
+use Rattle.commands.specs.declared.Stop.TheVariants.{Unknown, CutShort}
+use Rattle.std.proofs.Common.{ℕ, zero, suc, ◌+◌, ◌-◌, ◌*◌, ◌≤◌, ◌<◌, min, ◌≡◌, refl, sym, ap, ◌∙◌, subst, Bool, true, false, not, ◌&&◌, ◌||◌}
+use Rattle.std.proofs.Common.{true≢false, List, [], ◌∷◌, ◌++◌, le_of_eq, arith, le-leb, leb, ltb, eqb, length, get_or, replicate, take, drop}
+use Rattle.std.proofs.Common.{take-append-drop, length-append, get_or-take, Result, Ok, Err}
 use Rattle.commands.specs.declared.Entry.{Entry}
 use Rattle.commands.specs.declared.Entry.TheVariants.{Pool, Attachment, Hazard, Step, Coupon, Elapsed}
 use Rattle.commands.specs.declared.Order.{Order}
@@ -29,16 +29,13 @@ use Rattle.tree.proofs.DatesOnly.{by_dates, dates_most_kept}
 use Rattle.rows.specs.Tables.{entry}
 use Rattle.rows.specs.Rows.{Rows, row_length, node_in, any_over, soiled, rolled_back}
 use Rattle.rows.proofs.Rolled.{length_rolled, rolled_node}
-use Rattle.refusals.specs.declared.Found.{Found}
-use Rattle.refusals.specs.declared.Found.TheVariants.{Fine, Refused}
 use Rattle.refusals.specs.Tests.{pool_bad, first}
 use Rattle.refusals.proofs.Meanings.{pool_fine}
 use Rattle.entries.specs.Draft.{Draft, fractions, has_room, added}
 use Rattle.entries.specs.DatesOnly.{NoFractions, enters_fraction}
 use Rattle.entries.proofs.OnePeriod.{one_period}
 use Rattle.entries.proofs.DatesOnly.{dates_only_lem}
-use Rattle.figures.specs.declared.Answer.{Answer}
-use Rattle.figures.specs.declared.Answer.TheVariants.{Done, Position}
+use Rattle.figures.specs.Answer.{Answer, Done, Position}
 use Rattle.walk.specs.declared.Walk.{Walk}
 use Rattle.walk.specs.Calls.{Outcome, or_outcome, zeros, rolls, open_tests, back_tests, open_call, back_call, value_call, ratio_call}
 use Rattle.walk.specs.Manners.{CeilingsAsked}
@@ -207,10 +204,10 @@ module _ (g : Draft) (register : List ℕ) (w : Walk) (rooms : Rows) (k : Kept g
   abbrev Left : Outcome → Type 0
   Left o = Leaves o.walk o.rows
 
-  either : (f : Found) (o : Outcome) → (f ≡ Fine → Left o) → Left (or_outcome f w (lent_rows x rooms) o)
+  either : (f : Result ⊤ Refusal) (o : Outcome) → (f ≡ Ok tt → Left o) → Left (or_outcome f w (lent_rows x rooms) o)
   unfolding or_outcome
-  either Fine o h = h refl
-  either (Refused r) o h = same
+  either (Ok tt) o h = h refl
+  either (Err r) o h = same
 
   opened : Left (open_call x register w (lent_rows x rooms))
   unfolding open_call
@@ -238,7 +235,7 @@ module _ (g : Draft) (register : List ℕ) (w : Walk) (rooms : Rows) (k : Kept g
       (rolled_under x.sheet n z (limits_terms x o.limits) w.position c h.1 rooms.premiums ((k.walked o.walk.opened).under (fits_due x k.one o.limits))))
 
   -- value and delta only read
-  handed : (f : Found) (a : Answer) → Left (or_outcome f w (lent_rows x rooms) (record { answer = a; walk = w; rows = lent_rows x rooms }))
+  handed : (f : Result ⊤ Refusal) (a : Answer) → Left (or_outcome f w (lent_rows x rooms) (record { answer = a; walk = w; rows = lent_rows x rooms }))
   handed f a = either f (record { answer = a; walk = w; rows = lent_rows x rooms }) (λ e. same)
 
 -- ---- a command leaves it
@@ -312,8 +309,8 @@ kept_entered (Elapsed e) m k room =
 all_steps : (x : Terms) → pool_bad x ≡ false → min x.steps 3650 ≡ x.steps
 all_steps x e = omega (arith, ((pool_fine x).0 e).steps)
 
-met : (c : Command) (m : Machine) (o : Order) → c ≡ Act o → MeetsZeros c m → OrderMeets o m
-met c m o e z = subst (λ (c : Command). MeetsZeros c m) e z
+met : (c : Result Command Stop) (m : Machine) (o : Order) → c ≡ Ok (Act o) → MeetsZeros c m → OrderMeets o m
+met c m o e z = subst (λ (c : Result Command Stop). MeetsZeros c m) e z
 
 -- each order does what it did
 same_by : (o : Order) (m : Machine) → KeptIn m → HasZeros m.draft.brought.sheet → transition_of o m ≡ manner_transition dates_only_manner o m
@@ -349,19 +346,18 @@ in_range code e = ap (λ (t : Bool). leb 1 code && t) (go (dec_le code 12))
         let other : code ≡ 13 → ⊥ = eqb-false code 13 e in
         rw (lt-leb code 12 (omega arith)) (lt-leb code 13 (omega (arith, other)))
 
-is_fraction : Command → Bool
-is_fraction (Enter y) = enters_fraction y
-is_fraction (Act o) = false
-is_fraction Unknown = false
-is_fraction CutShort = false
+is_fraction : Result Command Stop → Bool
+is_fraction (Ok (Enter y)) = enters_fraction y
+is_fraction (Ok (Act o)) = false
+is_fraction (Err s) = false
 
 -- none of a list but its last
-plain : List Command → Bool
+plain : List (Result Command Stop) → Bool
 plain [] = true
 plain (c ∷ []) = true
 plain (c ∷ d ∷ l) = not (is_fraction c) && plain (d ∷ l)
 
-plain_at : (l : List Command) (i : ℕ) → plain l ≡ true → (suc i ≡ length l → ⊥) → is_fraction (get_or l i Unknown) ≡ false
+plain_at : (l : List (Result Command Stop)) (i : ℕ) → plain l ≡ true → (suc i ≡ length l → ⊥) → is_fraction (get_or l i (Err Unknown)) ≡ false
 unfolding plain is_fraction
 plain_at [] i h e = refl
 plain_at (c ∷ []) zero h e = absurd (e refl)
@@ -370,18 +366,18 @@ plain_at (c ∷ d ∷ l) zero h e = (two (is_fraction c) (plain (d ∷ l)) h).0
 plain_at (c ∷ d ∷ l) (suc i) h e = plain_at (d ∷ l) i (two (is_fraction c) (plain (d ∷ l)) h).1 (λ q. e (ap suc q))
 
 decoded_plain : (code : ℕ) (s : List ℕ) (b : ℕ) → (code ≡ 13 → ⊥) → is_fraction (decoded code s b) ≡ false
-unfolding decoded commands plain is_fraction
+unfolding commands plain is_fraction
 decoded_plain code s b e = plain_at (commands s b) code refl (λ q. e (omega arith))
 
-picked : (t : Bool) (a c : Command) → is_fraction a ≡ false → is_fraction c ≡ false → is_fraction (pick t a c) ≡ false
+picked : (t : Bool) (a c : Result Command Stop) → is_fraction a ≡ false → is_fraction c ≡ false → is_fraction (pick t a c) ≡ false
 picked true a c e f = e
 picked false a c e f = f
 
 not_fraction : (deck : List ℕ) (at : ℕ) → (get_or deck at 0 ≡ 13 → ⊥) → is_fraction (command_at deck at) ≡ false
 unfolding command_at is_fraction
 not_fraction deck at e =
-    picked (is_command (get_or deck at 0)) _ Unknown
-    (picked (leb (operands (get_or deck at 0)) (length deck - (at + 1))) _ CutShort (decoded_plain (get_or deck at 0) deck (at + 1) e) refl)
+    picked (is_command (get_or deck at 0)) _ (Err Unknown)
+    (picked (leb (operands (get_or deck at 0)) (length deck - (at + 1))) _ (Err CutShort) (decoded_plain (get_or deck at 0) deck (at + 1) e) refl)
     refl
 
 module _ (deck : List ℕ) where
@@ -417,17 +413,17 @@ module _ (deck : List ℕ) where
         two (eqb (get_or deck at 0) 13) (enters_none commands deck (at + command_size (command_at deck at)))
         (subst (λ (t : Bool). elim t [ true ↦ not (eqb (get_or deck at 0) 13) && enters_none commands deck (at + command_size (command_at deck at)) | false ↦ true ] ≡ true) b h)
 
-    behind : (c : Command) → command_at deck at ≡ c → enters_none commands deck (at + command_size c) ≡ true
-    behind c e = subst (λ (c : Command). enters_none commands deck (at + command_size c) ≡ true) e clear.1
+    behind : (c : Result Command Stop) → command_at deck at ≡ c → enters_none commands deck (at + command_size c) ≡ true
+    behind c e = subst (λ (c : Result Command Stop). enters_none commands deck (at + command_size c) ≡ true) e clear.1
 
   -- a byte other than 0D is read as it was, and enters no fraction
   read_alike : (at : ℕ) → eqb (get_or deck at 0) 13 ≡ false → command_at deck at ≡ earlier_command_at deck at
   unfolding command_at earlier_command_at
   read_alike at e =
-      ap (λ (t : Bool). pick t (pick (leb (operands (get_or deck at 0)) (length deck - (at + 1))) (decoded (get_or deck at 0) deck (at + 1)) CutShort) Unknown)
+      ap (λ (t : Bool). pick t (pick (leb (operands (get_or deck at 0)) (length deck - (at + 1))) (decoded (get_or deck at 0) deck (at + 1)) (Err CutShort)) (Err Unknown))
       (in_range (get_or deck at 0) e)
 
-  no_fraction : (at : ℕ) (y : Entry) → eqb (get_or deck at 0) 13 ≡ false → command_at deck at ≡ Enter y → enters_fraction y ≡ false
+  no_fraction : (at : ℕ) (y : Entry) → eqb (get_or deck at 0) 13 ≡ false → command_at deck at ≡ Ok (Enter y) → enters_fraction y ≡ false
   unfolding is_fraction
   no_fraction at y e q = sym (ap is_fraction q) ∙ not_fraction deck at (eqb-false (get_or deck at 0) 13 e)
 
@@ -453,12 +449,12 @@ module _ (deck : List ℕ) where
         (λ o e. (
           kept_after o m g.0 (meets o m g.1),
           subst NoFractions (sym (entered_kept o m)) g.1,
-          behind commands at g.2 b (Act o) e,
+          behind commands at g.2 b (Ok (Act o)) e,
         ))
         (λ y e r. (
           kept_entered y m g.0 r,
           dates_only_lem.kept y m.draft (no_fraction at y (clear commands at g.2 b).0 e) g.1,
-          behind commands at g.2 b (Enter y) e,
+          behind commands at g.2 b (Ok (Enter y)) e,
         ));
   }
 

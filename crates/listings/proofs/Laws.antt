@@ -1,14 +1,12 @@
 -- What commands do, one by one and one after the other.
-use Prim.Native.Nat.{ℕ, zero, suc, ◌≤◌, ◌<◌}
-use mathlib.Core.Path.{◌≡◌, refl, sym, ap}
-use mathlib.Core.List.{List, [], ◌++◌}
-use borrow.Author.Tests.{lt-ltb, le-ltb}
-use lib.ListN.{length}
 use Rattle.commands.specs.declared.Command.{Command}
-use Rattle.commands.specs.declared.Command.TheVariants.{Enter, Act, Unknown, CutShort}
+use Rattle.commands.specs.declared.Command.TheVariants.{Enter, Act}
+use Rattle.commands.specs.declared.Stop.{Stop}
+use Rattle.std.proofs.Common.{ℕ, zero, suc, ◌≤◌, ◌<◌, ◌≡◌, refl, sym, ap, List, [], ◌++◌, lt-ltb, le-ltb, length, Result, Ok, Err}
 use Rattle.commands.specs.declared.Entry.{Entry}
 use Rattle.commands.specs.declared.Order.{Order}
 use Rattle.commands.specs.Commands.{command_at}
+use Rattle.commands.specs.Kinds.{refusal_of}
 use Rattle.machine.specs.Machine.{Machine, machine_on}
 use Rattle.render.specs.Lines.{deck_line}
 use Rattle.listings.specs.Effects.{stop, go_on, entry_effect, order_effect, effect_of}
@@ -17,22 +15,18 @@ use Rattle.listings.specs.RegisterFrom.{register_from}
 use Rattle.listings.specs.Listing.{listing_on, register_after}
 
 -- the effect of a command that was read
-module _ {c : Command} (at : ℕ) (m : Machine) where
-  pub unknown_effect : c ≡ Unknown → effect_of c at m ≡ stop (deck_line 18 at)
+module _ {c : Result Command Stop} (at : ℕ) (m : Machine) where
+  pub stop_effect : {s : Stop} → c ≡ Err s → effect_of c at m ≡ stop (deck_line (refusal_of s) at)
   unfolding effect_of
-  unknown_effect e = ap (λ (k : Command). effect_of k at m) e
+  stop_effect e = ap (λ (k : Result Command Stop). effect_of k at m) e
 
-  pub cut_effect : c ≡ CutShort → effect_of c at m ≡ stop (deck_line 19 at)
+  pub enter_effect : {y : Entry} → c ≡ Ok (Enter y) → effect_of c at m ≡ entry_effect y at m
   unfolding effect_of
-  cut_effect e = ap (λ (k : Command). effect_of k at m) e
+  enter_effect e = ap (λ (k : Result Command Stop). effect_of k at m) e
 
-  pub enter_effect : {y : Entry} → c ≡ Enter y → effect_of c at m ≡ entry_effect y at m
+  pub act_effect : {o : Order} → c ≡ Ok (Act o) → effect_of c at m ≡ order_effect o at m
   unfolding effect_of
-  enter_effect e = ap (λ (k : Command). effect_of k at m) e
-
-  pub act_effect : {o : Order} → c ≡ Act o → effect_of c at m ≡ order_effect o at m
-  unfolding effect_of
-  act_effect e = ap (λ (k : Command). effect_of k at m) e
+  act_effect e = ap (λ (k : Result Command Stop). effect_of k at m) e
 
 -- what is printed and left from an offset on: past the end, by a command that goes on, by one that stops
 module _ (deck : List ℕ) (at : ℕ) (m : Machine) where

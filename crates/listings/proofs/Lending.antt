@@ -1,7 +1,5 @@
 -- The rooms of a run keep the lengths that they start with.
-use Prim.Native.Nat.{ℕ, zero, suc}
-use mathlib.Core.List.{List}
-use lib.ListN.{length}
+use Rattle.std.proofs.Common.{ℕ, zero, suc, List, length}
 use Rattle.commands.specs.Commands.{command_at}
 use Rattle.machine.specs.Machine.{Machine, machine_on}
 use Rattle.machine.proofs.Lending.{RoomsLong, lent_full, first_long, kept}

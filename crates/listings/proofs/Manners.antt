@@ -1,12 +1,9 @@
 -- Where every order of a run does what it does in a manner, the run prints and leaves the same.
-use Prim.Native.Nat.{ℕ, zero, suc, ◌+◌}
-use mathlib.Core.Path.{◌≡◌, refl, ap, ◌∙◌, subst₂}
-use mathlib.Core.Bool.{Bool, true, false, false≢true}
-use mathlib.Core.List.{List, [], ◌++◌}
-use lib.Dec.{ltb}
-use lib.ListN.{length, take}
+use mathlib.Core.Bool.{false≢true}
 use Rattle.commands.specs.declared.Command.{Command}
-use Rattle.commands.specs.declared.Command.TheVariants.{Enter, Act, Unknown, CutShort}
+use Rattle.commands.specs.declared.Command.TheVariants.{Enter, Act}
+use Rattle.commands.specs.declared.Stop.{Stop}
+use Rattle.std.proofs.Common.{ℕ, zero, suc, ◌+◌, ◌≡◌, refl, ap, ◌∙◌, subst₂, Bool, true, false, List, [], ◌++◌, ltb, length, take, Result, Ok, Err}
 use Rattle.commands.specs.declared.Entry.{Entry}
 use Rattle.commands.specs.declared.Order.{Order}
 use Rattle.commands.specs.declared.Order.TheVariants.{Issue, Withdraw, Open, Back, Value, Delta, Forward}
@@ -55,20 +52,19 @@ ordered n (Forward i k) m Lent a l =
 -- command that goes on.
 pub record Along (read : Reading) (n : Manner) (deck : List ℕ) (Kept : ℕ → ℕ → Machine → Type 0) : Type 1 where
   pub reads : (commands at : ℕ) (m : Machine) → ltb at (length deck) ≡ true → Kept (suc commands) at m → command_at deck at ≡ read deck at
-  pub same : (commands at : ℕ) (m : Machine) (o : Order) → ltb at (length deck) ≡ true → command_at deck at ≡ Act o → Kept (suc commands) at m →
+  pub same : (commands at : ℕ) (m : Machine) (o : Order) → ltb at (length deck) ≡ true → command_at deck at ≡ Ok (Act o) → Kept (suc commands) at m →
       transition_of o m ≡ manner_transition n o m
   pub on : (commands at : ℕ) (m : Machine) (text : List ℕ) (next : ℕ) (t : Machine) → ltb at (length deck) ≡ true →
       effect_of (command_at deck at) at m ≡ go_on text next t → Kept (suc commands) at m → Kept commands next t
 
 module _ (read : Reading) (n : Manner) (deck : List ℕ) (Kept : ℕ → ℕ → Machine → Type 0) (along : Along read n deck Kept) where
   -- a command has the same effect
-  same_effect : (commands at : ℕ) (m : Machine) → ltb at (length deck) ≡ true → Kept (suc commands) at m → (c : Command) →
+  same_effect : (commands at : ℕ) (m : Machine) → ltb at (length deck) ≡ true → Kept (suc commands) at m → (c : Result Command Stop) →
       command_at deck at ≡ c → effect_of c at m ≡ manner_effect n c at m
   unfolding effect_of manner_effect order_effect
-  same_effect commands at m b k Unknown e = refl
-  same_effect commands at m b k CutShort e = refl
-  same_effect commands at m b k (Enter y) e = refl
-  same_effect commands at m b k (Act o) e =
+  same_effect commands at m b k (Err s) e = refl
+  same_effect commands at m b k (Ok (Enter y)) e = refl
+  same_effect commands at m b k (Ok (Act o)) e =
       ap (λ (t : Transition). go_on (order_line o t.said) (at + order_size o) t.next) (along.same commands at m o b e k)
 
   -- what is printed and left behind it, where `listing` and `left` are those of the run after it
@@ -109,7 +105,7 @@ module _ (read : Reading) (n : Manner) (deck : List ℕ) (Kept : ℕ → ℕ →
           printed_is commands at m k rest b (effect_of (command_at deck at) at m) refl
           ∙ ap (printed (manner_listing_from read n commands deck))
           (same_effect commands at m b k (command_at deck at) refl
-          ∙ ap (λ (c : Command). manner_effect n c at m) (along.reads commands at m b k))
+          ∙ ap (λ (c : Result Command Stop). manner_effect n c at m) (along.reads commands at m b k))
       go rest false b = refl
 
   pub register_is : (commands at : ℕ) (m : Machine) → Kept commands at m → register_from commands deck at m ≡ manner_register_from read n commands deck at m
@@ -125,7 +121,7 @@ module _ (read : Reading) (n : Manner) (deck : List ℕ) (Kept : ℕ → ℕ →
           kept_is commands at m k rest b (effect_of (command_at deck at) at m) refl
           ∙ ap (kept m.register (manner_register_from read n commands deck))
           (same_effect commands at m b k (command_at deck at) refl
-          ∙ ap (λ (c : Command). manner_effect n c at m) (along.reads commands at m b k))
+          ∙ ap (λ (c : Result Command Stop). manner_effect n c at m) (along.reads commands at m b k))
       go rest false b = refl
 
   -- the whole deck
@@ -176,14 +172,13 @@ goes_of (go_on text next t) = true
 
 -- What holds of all that an order or an entry leaves, and behind it, holds of what a command leaves that goes on.
 module _ (P : ℕ → Machine → Type 0) (at : ℕ) (m : Machine) where
-  pub goes_on : (c : Command) (text : List ℕ) (next : ℕ) (t : Machine) → effect_of c at m ≡ go_on text next t →
-      ((o : Order) → c ≡ Act o → P (at + order_size o) (transition_of o m).next) →
-      ((e : Entry) → c ≡ Enter e → has_room e m.draft ≡ true → P (at + entry_size e) (with_draft m (added e m.draft))) → P next t
+  pub goes_on : (c : Result Command Stop) (text : List ℕ) (next : ℕ) (t : Machine) → effect_of c at m ≡ go_on text next t →
+      ((o : Order) → c ≡ Ok (Act o) → P (at + order_size o) (transition_of o m).next) →
+      ((e : Entry) → c ≡ Ok (Enter e) → has_room e m.draft ≡ true → P (at + entry_size e) (with_draft m (added e m.draft))) → P next t
   unfolding effect_of order_effect entry_effect goes_of next_of after_of
-  goes_on Unknown text next t q order entry = absurd (false≢true (ap goes_of q))
-  goes_on CutShort text next t q order entry = absurd (false≢true (ap goes_of q))
-  goes_on (Act o) text next t q order entry = subst₂ P (ap next_of q) (ap (after_of m) q) (order o refl)
-  goes_on (Enter e) text next t q order entry = go (has_room e m.draft) refl q
+  goes_on (Err s) text next t q order entry = absurd (false≢true (ap goes_of q))
+  goes_on (Ok (Act o)) text next t q order entry = subst₂ P (ap next_of q) (ap (after_of m) q) (order o refl)
+  goes_on (Ok (Enter e)) text next t q order entry = go (has_room e m.draft) refl q
     where
       go : (b : Bool) → has_room e m.draft ≡ b →
           elim b [ true ↦ go_on [] (at + entry_size e) (with_draft m (added e m.draft)) | false ↦ stop (deck_line 20 at) ] ≡ go_on text next t → P next t

@@ -1,16 +1,12 @@
 -- A withdrawal holds for ever, through calls and runs of decks, wherever the power fails in them.
-use Prim.Native.Nat.{ℕ, zero, suc, ◌+◌}
-use mathlib.Core.Path.{◌≡◌, refl, sym, ap, subst, ◌∙◌}
-use mathlib.Core.Bool.{Bool, true, false, false≢true, cond, ◌||◌}
-use mathlib.Core.List.{List, [], ◌∷◌}
-use mathlib.Core.Logic.{◌≢◌, ◌⊎◌, inl, inr, ◌↔◌}
-use native.Mathlib.Omega.{arith}
-use lib.Dec.{ltb}
-use lib.ListN.{length, get_or, set}
+use mathlib.Core.Bool.{false≢true}
 use lib.Seq.{set-get_or}
 use Rattle.register.specs.Rules.{Unissued, Live}
 use Rattle.commands.specs.declared.Command.{Command}
-use Rattle.commands.specs.declared.Command.TheVariants.{Enter, Act, Unknown, CutShort}
+use Rattle.commands.specs.declared.Command.TheVariants.{Enter, Act}
+use Rattle.commands.specs.declared.Stop.{Stop}
+use Rattle.std.proofs.Common.{ℕ, zero, suc, ◌+◌, ◌≡◌, refl, sym, ap, subst, ◌∙◌, Bool, true, false, cond, ◌||◌, List, [], ◌∷◌, ◌≢◌, ◌⊎◌, inl, inr}
+use Rattle.std.proofs.Common.{◌↔◌, arith, ltb, length, get_or, set, Result, Ok, Err}
 use Rattle.commands.specs.declared.Entry.{Entry}
 use Rattle.commands.specs.declared.Order.{Order}
 use Rattle.commands.specs.declared.Order.TheVariants.{Issue, Withdraw, Open, Back, Value, Delta, Forward}
@@ -77,12 +73,11 @@ entry_behind e at m = go (has_room e m.draft)
     go true = refl
     go false = refl
 
-command_between : (c : Command) (at : ℕ) (m : Machine) → CutBetween (found_in_command c m) m.register (behind m (effect_of c at m))
+command_between : (c : Result Command Stop) (at : ℕ) (m : Machine) → CutBetween (found_in_command c m) m.register (behind m (effect_of c at m))
 unfolding found_in_command effect_of order_effect
-command_between (Act o) at m = order_between o m
-command_between (Enter e) at m = rw (entry_behind e at m) (unwritten m.register)
-command_between Unknown at m = unwritten m.register
-command_between CutShort at m = unwritten m.register
+command_between (Ok (Act o)) at m = order_between o m
+command_between (Ok (Enter e)) at m = rw (entry_behind e at m) (unwritten m.register)
+command_between (Err s) at m = unwritten m.register
 
 between : (done : ℕ) (deck : List ℕ) (at : ℕ) (m : Machine) →
     CutBetween (found_from done deck at m) (register_from done deck at m) (register_from (suc done) deck at m)
@@ -179,19 +174,17 @@ order_lasts (Forward i k) m = rests m.register
 
 -- ---- a command, and a run of them
 
-cut_command_lasts : (c : Command) (m : Machine) (byte : ℕ) → Lasting m.register (found_in_command c m byte) (λ y. false)
+cut_command_lasts : (c : Result Command Stop) (m : Machine) (byte : ℕ) → Lasting m.register (found_in_command c m byte) (λ y. false)
 unfolding found_in_command
-cut_command_lasts (Act o) m byte = cut_order_lasts o m byte
-cut_command_lasts (Enter e) m byte = rests m.register
-cut_command_lasts Unknown m byte = rests m.register
-cut_command_lasts CutShort m byte = rests m.register
+cut_command_lasts (Ok (Act o)) m byte = cut_order_lasts o m byte
+cut_command_lasts (Ok (Enter e)) m byte = rests m.register
+cut_command_lasts (Err s) m byte = rests m.register
 
-command_lasts : (c : Command) (at : ℕ) (m : Machine) → Lasting m.register (behind m (effect_of c at m)) (command_withdrew c m)
+command_lasts : (c : Result Command Stop) (at : ℕ) (m : Machine) → Lasting m.register (behind m (effect_of c at m)) (command_withdrew c m)
 unfolding command_withdrew effect_of order_effect
-command_lasts (Act o) at m = order_lasts o m
-command_lasts (Enter e) at m = rw (entry_behind e at m) (rests m.register)
-command_lasts Unknown at m = rests m.register
-command_lasts CutShort at m = rests m.register
+command_lasts (Ok (Act o)) at m = order_lasts o m
+command_lasts (Ok (Enter e)) at m = rw (entry_behind e at m) (rests m.register)
+command_lasts (Err s) at m = rests m.register
 
 found_lasts : (done : ℕ) (deck : List ℕ) (at : ℕ) (m : Machine) (byte : ℕ) →
     Lasting m.register (found_from done deck at m byte) (withdrew_from done deck at m)

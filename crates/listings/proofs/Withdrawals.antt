@@ -1,24 +1,19 @@
 -- No deck makes a withdrawn number live or unissued again, or shows a figure of it.
-use Prim.Native.Nat.{ℕ, zero, suc, ◌+◌}
-use mathlib.Core.Path.{◌≡◌, refl, sym, ap, ◌∙◌}
-use mathlib.Core.Bool.{Bool, true, false, false≢true, cond}
-use mathlib.Core.List.{List, []}
-use lib.Dec.{ltb}
-use mathlib.Core.Logic.{◌⊎◌, inl, inr}
-use lib.ListN.{length, get_or, set, take, length-set}
-use lib.Seq.{get_or-set_other}
+use mathlib.Core.Bool.{false≢true}
 use Rattle.register.specs.Register.{Write, issue, withdraw, byte_of, answer_of, is_accepted, leaves_of}
 use Rattle.register.specs.Rules.{Unissued, Live, Withdrawn}
 use Rattle.register.proofs.Rules.{of_withdrawn}
 use Rattle.commands.specs.declared.Command.{Command}
-use Rattle.commands.specs.declared.Command.TheVariants.{Enter, Act, Unknown, CutShort}
+use Rattle.commands.specs.declared.Command.TheVariants.{Enter, Act}
+use Rattle.commands.specs.declared.Stop.{Stop}
+use Rattle.std.proofs.Common.{ℕ, zero, suc, ◌+◌, ◌≡◌, refl, sym, ap, ◌∙◌, Bool, true, false, cond, List, [], ltb, ◌⊎◌, inl, inr, length, get_or, set}
+use Rattle.std.proofs.Common.{take, length-set, get_or-set_other, Result, Ok, Err}
 use Rattle.commands.specs.declared.Order.{Order}
 use Rattle.commands.specs.declared.Order.TheVariants.{Issue, Withdraw, Open, Back, Value, Delta, Forward}
 use Rattle.commands.specs.Commands.{command_at, entry_size, order_size}
 use Rattle.entries.specs.Draft.{has_room, added}
 use Rattle.render.specs.Lines.{deck_line}
-use Rattle.figures.specs.declared.Answer.{Answer}
-use Rattle.figures.specs.declared.Answer.TheVariants.{Refused, Done, Position, Worth, Ratio}
+use Rattle.figures.specs.Answer.{Answer, Refused, Done, Position, Worth, Ratio}
 use Rattle.walk.specs.Answers.{fresh, said_of}
 use Rattle.walk.specs.RefusalOrders.{RefusalOrder}
 use Rattle.walk.specs.Accuracy.{EarlyRefusal}
@@ -91,12 +86,11 @@ module _ (n : ℕ) (deck : List ℕ) (at : ℕ) (m : Machine) (rest : (next : �
   entered true next t text e = rw (sym e) (rest next t)
   entered false next t text e = unchanged m.register
 
-  commanded : (c : Command) → KeepsWithdrawn m.register (behind (effect_of c at m))
+  commanded : (c : Result Command Stop) → KeepsWithdrawn m.register (behind (effect_of c at m))
   unfolding behind effect_of entry_effect order_effect
-  commanded Unknown = unchanged m.register
-  commanded CutShort = unchanged m.register
-  commanded (Act o) = then _ _ _ (ordered o m) (rest (at + order_size o) (transition_of o m).next)
-  commanded (Enter y) = entered (has_room y m.draft) (at + entry_size y) (with_draft m (added y m.draft)) (deck_line 20 at) refl
+  commanded (Err s) = unchanged m.register
+  commanded (Ok (Act o)) = then _ _ _ (ordered o m) (rest (at + order_size o) (transition_of o m).next)
+  commanded (Ok (Enter y)) = entered (has_room y m.draft) (at + entry_size y) (with_draft m (added y m.draft)) (deck_line 20 at) refl
 
   commands_keep : (b : Bool) → KeepsWithdrawn m.register (elim b [ true ↦ behind (effect_of (command_at deck at) at m) | false ↦ m.register ])
   commands_keep true = commanded (command_at deck at)

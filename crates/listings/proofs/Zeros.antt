@@ -1,15 +1,11 @@
 -- A deck that passes the test of its bytes meets m zeros at each order: along its run the draft has as many zeros as the test counts, and its steps.
-use Prim.Native.Nat.{ℕ, zero, suc, ◌+◌, ◌≤◌, min}
-use mathlib.Core.Path.{◌≡◌, refl, sym, ap, ◌∙◌, subst}
-use mathlib.Core.Bool.{Bool, true, false, ◌&&◌}
-use mathlib.Core.List.{List, [], ◌∷◌, ◌++◌}
-use native.Mathlib.Omega.{arith}
-use borrow.Author.Tests.{ltb-true, eqb-true, ne_eqb}
-use lib.Dec.{ltb, eqb}
-use lib.ListN.{length, replicate, length-replicate, replicate-append-replicate}
-use Rattle.register.proofs.Masks.{both}
+use lib.ListN.{length-replicate, replicate-append-replicate}
+use Rattle.std.proofs.lemmas.Bool.{and_parts as both}
 use Rattle.commands.specs.declared.Command.{Command}
-use Rattle.commands.specs.declared.Command.TheVariants.{Enter, Act, Unknown, CutShort}
+use Rattle.commands.specs.declared.Command.TheVariants.{Enter, Act}
+use Rattle.commands.specs.declared.Stop.{Stop}
+use Rattle.std.proofs.Common.{ℕ, zero, suc, ◌+◌, ◌≤◌, min, ◌≡◌, refl, sym, ap, ◌∙◌, subst, Bool, true, false, ◌&&◌, List, [], ◌∷◌, ◌++◌, arith}
+use Rattle.std.proofs.Common.{ltb-true, eqb-true, ne_eqb, ltb, eqb, length, replicate, Result, Ok, Err}
 use Rattle.commands.specs.declared.Entry.{Entry}
 use Rattle.commands.specs.declared.Entry.TheVariants.{Pool, Attachment, Hazard, Step, Coupon, Elapsed}
 use Rattle.commands.specs.declared.Order.{Order}
@@ -66,7 +62,7 @@ module _ (behind : ℕ → ℕ → Bool) (steps entered : ℕ) (m : Machine) (k 
   abbrev Onward : Draft → Type 0
   Onward d = (s : ℕ) × (n : ℕ) × Holds d s n × (behind s n ≡ true)
 
-  goes_entered : (y : Entry) → has_room y g ≡ true → zeros_at (Enter y) behind steps entered ≡ true → Onward (added y g)
+  goes_entered : (y : Entry) → has_room y g ≡ true → zeros_at (Ok (Enter y)) behind steps entered ≡ true → Onward (added y g)
   unfolding added has_room
   goes_entered (Pool n m r recovery number) room h = (m, entered, record { zeros = k.zeros; met = refl; told = refl; few = k.few }, h)
   goes_entered (Attachment a) room h = (steps, entered, record { zeros = k.zeros; met = k.met; told = k.told; few = k.few }, h)
@@ -90,7 +86,7 @@ module _ (behind : ℕ → ℕ → Bool) (steps entered : ℕ) (m : Machine) (k 
   brings h = let t = both (none_or_all steps entered) (behind steps entered) h in (holds_zeros g steps entered k t.0, t.1)
 
   -- an order that brings a sheet meets zeros, and the test goes on
-  goes_ordered : (o : Order) → zeros_at (Act o) behind steps entered ≡ true → OrderMeets o m × (behind steps entered ≡ true)
+  goes_ordered : (o : Order) → zeros_at (Ok (Act o)) behind steps entered ≡ true → OrderMeets o m × (behind steps entered ≡ true)
   goes_ordered (Issue y) h = (tt, h)
   goes_ordered (Withdraw y) h = (tt, h)
   goes_ordered Open h = brings h
@@ -99,25 +95,24 @@ module _ (behind : ℕ → ℕ → Bool) (steps entered : ℕ) (m : Machine) (k 
   goes_ordered (Delta j c) h = brings h
   goes_ordered (Forward i c) h = brings h
 
-  meets : (c : Command) → zeros_at c behind steps entered ≡ true → MeetsZeros c m
-  meets (Enter y) h = tt
-  meets (Act o) h = (goes_ordered o h).0
-  meets Unknown h = tt
-  meets CutShort h = tt
+  meets : (c : Result Command Stop) → zeros_at c behind steps entered ≡ true → MeetsZeros c m
+  meets (Ok (Enter y)) h = tt
+  meets (Ok (Act o)) h = (goes_ordered o h).0
+  meets (Err s) h = tt
 
 -- ---- the run
 
 module _ (deck : List ℕ) where
-  abbrev behind : ℕ → ℕ → Command → ℕ → ℕ → Bool
+  abbrev behind : ℕ → ℕ → Result Command Stop → ℕ → ℕ → Bool
   behind n at c = enters_zeros_from n deck (at + command_size c)
 
   -- the test of a command that is read
   at_command : (n at steps entered : ℕ) → ltb at (length deck) ≡ true → enters_zeros_from (suc n) deck at steps entered ≡ true →
-      (c : Command) → command_at deck at ≡ c → zeros_at c (behind n at c) steps entered ≡ true
+      (c : Result Command Stop) → command_at deck at ≡ c → zeros_at c (behind n at c) steps entered ≡ true
   unfolding enters_zeros_from
   at_command n at steps entered b h c e =
       let r = command_at deck at in
-      subst (λ (c : Command). zeros_at c (behind n at c) steps entered ≡ true) e
+      subst (λ (c : Result Command Stop). zeros_at c (behind n at c) steps entered ≡ true) e
       (subst (λ (t : Bool). elim t [ true ↦ zeros_at r (behind n at r) steps entered | false ↦ true ] ≡ true) b h)
 
   zeros_from : (n at steps entered : ℕ) (m : Machine) → Holds m.draft steps entered → enters_zeros_from n deck at steps entered ≡ true →
@@ -131,10 +126,10 @@ module _ (deck : List ℕ) where
             goes_on (λ next t. ZerosFrom n deck next t) at m (command_at deck at) text next t q
             (λ o e.
             let kept = subst (λ (g : Draft). Holds g steps entered) (sym (entered_kept o m)) k in
-            let r = goes_ordered (behind n at (Act o)) steps entered m k o (test (Act o) e) in
+            let r = goes_ordered (behind n at (Ok (Act o))) steps entered m k o (test (Ok (Act o)) e) in
             zeros_from n (at + order_size o) steps entered (transition_of o m).next kept r.1)
             (λ y e room.
-            let r = goes_entered (behind n at (Enter y)) steps entered m k y room (test (Enter y) e) in
+            let r = goes_entered (behind n at (Ok (Enter y))) steps entered m k y room (test (Ok (Enter y)) e) in
             zeros_from n (at + entry_size y) r.0 r.1 (with_draft m (added y m.draft)) r.2 r.3),
       )
 

@@ -1,9 +1,11 @@
 -- All fractions 0 reproduce the listing before T-01, and the register: in a deck whose commands 0D enter 0, none or m of them before each order that
 -- brings a sheet, which a test of its bytes tells; in one without 0D, also by the commands as they were; in any whose orders all meet m zeros.
 -- Before T-01 the byte 0D was no command: where a deck has it, it is read as an entry, and a stop tells its offset with it.
-use Rattle.std.specs.Prelude.{ℕ, zero, suc, ◌+◌, ◌-◌, ◌≡◌, Bool, true, false, not, ◌&&◌, ◌||◌, List, [], leb, ltb, eqb, length, get_or}
+use Rattle.std.specs.Prelude.{ℕ, zero, suc, ◌+◌, ◌-◌, ◌≡◌, Bool, true, false, not, ◌&&◌, ◌||◌, Result, Ok, Err, List, [], leb, ltb, eqb, length, get_or}
 use Rattle.commands.specs.declared.Command.{Command}
-use Rattle.commands.specs.declared.Command.TheVariants.{Enter, Act, Unknown, CutShort}
+use Rattle.commands.specs.declared.Command.TheVariants.{Enter, Act}
+use Rattle.commands.specs.declared.Stop.{Stop}
+use Rattle.commands.specs.declared.Stop.TheVariants.{Unknown, CutShort}
 use Rattle.commands.specs.declared.Entry.TheVariants.{Pool, Attachment, Hazard, Step, Coupon, Elapsed}
 use Rattle.commands.specs.declared.Order.{Order}
 use Rattle.commands.specs.declared.Order.TheVariants.{Issue, Withdraw, Open, Back, Value, Delta, Forward}
@@ -19,11 +21,10 @@ use Rattle.listings.specs.Manners.{manner_listing, manner_register}
 -- ---- decks whose commands 0D enter zeros: a test of their bytes
 
 -- How many bytes a command has. One that is none has no size: there the run ends.
-abbrev pub command_size : Command → ℕ
-command_size (Enter e) = entry_size e
-command_size (Act o) = order_size o
-command_size Unknown = 0
-command_size CutShort = 0
+abbrev pub command_size : Result Command Stop → ℕ
+command_size (Ok (Enter e)) = entry_size e
+command_size (Ok (Act o)) = order_size o
+command_size (Err s) = 0
 
 -- No fraction is entered, or as many as steps.
 abbrev pub none_or_all : ℕ → ℕ → Bool
@@ -31,22 +32,21 @@ none_or_all steps entered = eqb entered 0 || eqb entered steps
 
 -- A command, and what stands behind it. `steps` are those of the pool read so far, 0 before one, and `entered` is the number of fractions. Each
 -- fraction is 0, and before an order that brings a sheet there are none or as many as steps. Where the run ends nothing is asked.
-abbrev pub zeros_at : Command → (ℕ → ℕ → Bool) → ℕ → ℕ → Bool
-zeros_at (Enter (Pool n m r recovery number)) behind steps entered = behind m entered
-zeros_at (Enter (Attachment a)) behind steps entered = behind steps entered
-zeros_at (Enter (Hazard p)) behind steps entered = behind steps entered
-zeros_at (Enter (Step v d)) behind steps entered = behind steps entered
-zeros_at (Enter (Coupon s)) behind steps entered = behind steps entered
-zeros_at (Enter (Elapsed e)) behind steps entered = eqb e 0 && behind steps (entered + 1)
-zeros_at (Act (Issue y)) behind steps entered = behind steps entered
-zeros_at (Act (Withdraw y)) behind steps entered = behind steps entered
-zeros_at (Act Open) behind steps entered = none_or_all steps entered && behind steps entered
-zeros_at (Act (Back c)) behind steps entered = none_or_all steps entered && behind steps entered
-zeros_at (Act (Value j k)) behind steps entered = none_or_all steps entered && behind steps entered
-zeros_at (Act (Delta j k)) behind steps entered = none_or_all steps entered && behind steps entered
-zeros_at (Act (Forward i k)) behind steps entered = none_or_all steps entered && behind steps entered
-zeros_at Unknown behind steps entered = true
-zeros_at CutShort behind steps entered = true
+abbrev pub zeros_at : Result Command Stop → (ℕ → ℕ → Bool) → ℕ → ℕ → Bool
+zeros_at (Ok (Enter (Pool n m r recovery number))) behind steps entered = behind m entered
+zeros_at (Ok (Enter (Attachment a))) behind steps entered = behind steps entered
+zeros_at (Ok (Enter (Hazard p))) behind steps entered = behind steps entered
+zeros_at (Ok (Enter (Step v d))) behind steps entered = behind steps entered
+zeros_at (Ok (Enter (Coupon s))) behind steps entered = behind steps entered
+zeros_at (Ok (Enter (Elapsed e))) behind steps entered = eqb e 0 && behind steps (entered + 1)
+zeros_at (Ok (Act (Issue y))) behind steps entered = behind steps entered
+zeros_at (Ok (Act (Withdraw y))) behind steps entered = behind steps entered
+zeros_at (Ok (Act Open)) behind steps entered = none_or_all steps entered && behind steps entered
+zeros_at (Ok (Act (Back c))) behind steps entered = none_or_all steps entered && behind steps entered
+zeros_at (Ok (Act (Value j k))) behind steps entered = none_or_all steps entered && behind steps entered
+zeros_at (Ok (Act (Delta j k))) behind steps entered = none_or_all steps entered && behind steps entered
+zeros_at (Ok (Act (Forward i k))) behind steps entered = none_or_all steps entered && behind steps entered
+zeros_at (Err s) behind steps entered = true
 
 -- From an offset on, with so many commands at most.
 unfoldable pub enters_zeros_from : ℕ → List ℕ → ℕ → ℕ → ℕ → Bool
@@ -66,11 +66,11 @@ enters_zeros deck = enters_zeros_from (length deck) deck 0 0 0
 -- ---- decks without 0D
 
 -- What stood at an offset: the bytes 01 to 0C were commands, with the operands that they have.
-unfoldable pub earlier_command_at : List ℕ → ℕ → Command
+unfoldable pub earlier_command_at : List ℕ → ℕ → Result Command Stop
 earlier_command_at s at =
     let code = get_or s at 0 in
     let rest = length s - (at + 1) in
-    pick (leb 1 code && leb code 12) (pick (leb (operands code) rest) (decoded code s (at + 1)) CutShort) Unknown
+    pick (leb 1 code && leb code 12) (pick (leb (operands code) rest) (decoded code s (at + 1)) (Err CutShort)) (Err Unknown)
 
 -- No command byte of a deck, read one after the other, is 0D.
 unfoldable pub enters_none : ℕ → List ℕ → ℕ → Bool
@@ -97,11 +97,10 @@ OrderMeets (Value j k) m = HasZeros m.draft.brought.sheet
 OrderMeets (Delta j k) m = HasZeros m.draft.brought.sheet
 OrderMeets (Forward i k) m = HasZeros m.draft.brought.sheet
 
-abbrev pub MeetsZeros : Command → Machine → Type 0
-MeetsZeros (Act o) m = OrderMeets o m
-MeetsZeros (Enter e) m = Unit {0}
-MeetsZeros Unknown m = Unit {0}
-MeetsZeros CutShort m = Unit {0}
+abbrev pub MeetsZeros : Result Command Stop → Machine → Type 0
+MeetsZeros (Ok (Act o)) m = OrderMeets o m
+MeetsZeros (Ok (Enter e)) m = Unit {0}
+MeetsZeros (Err s) m = Unit {0}
 
 -- Every order of a run does, from an offset on.
 unfoldable pub ZerosFrom : ℕ → List ℕ → ℕ → Machine → Type 0

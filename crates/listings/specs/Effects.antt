@@ -1,10 +1,12 @@
 -- What a command prints, and where the run goes on (document 01, 'Deck and printing program').
-use Rattle.std.specs.Prelude.{ℕ, ◌+◌, true, false, List, []}
+use Rattle.std.specs.Prelude.{ℕ, ◌+◌, true, false, Result, Ok, Err, List, []}
 use Rattle.commands.specs.declared.Command.{Command}
-use Rattle.commands.specs.declared.Command.TheVariants.{Enter, Act, Unknown, CutShort}
+use Rattle.commands.specs.declared.Command.TheVariants.{Enter, Act}
+use Rattle.commands.specs.declared.Stop.{Stop}
 use Rattle.commands.specs.declared.Entry.{Entry}
 use Rattle.commands.specs.declared.Order.{Order}
 use Rattle.commands.specs.Commands.{entry_size, order_size}
+use Rattle.commands.specs.Kinds.{refusal_of}
 use Rattle.entries.specs.Draft.{Draft, has_room, added}
 use Rattle.machine.specs.Machine.{Machine}
 use Rattle.machine.specs.Transitions.{transition_of}
@@ -27,8 +29,7 @@ entry_effect e at m =
 unfoldable pub order_effect : Order → ℕ → Machine → Effect
 order_effect o at m = go_on (order_line o (transition_of o m).said) (at + order_size o) (transition_of o m).next
 
-unfoldable pub effect_of : Command → ℕ → Machine → Effect
-effect_of Unknown at m = stop (deck_line 18 at)
-effect_of CutShort at m = stop (deck_line 19 at)
-effect_of (Enter e) at m = entry_effect e at m
-effect_of (Act o) at m = order_effect o at m
+unfoldable pub effect_of : Result Command Stop → ℕ → Machine → Effect
+effect_of (Err s) at m = stop (deck_line (refusal_of s) at)
+effect_of (Ok (Enter e)) at m = entry_effect e at m
+effect_of (Ok (Act o)) at m = order_effect o at m

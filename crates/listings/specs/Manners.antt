@@ -1,11 +1,13 @@
 -- A deck by calls of any manner, and by any reading of its commands: what it prints, and the register that it leaves.
-use Rattle.std.specs.Prelude.{ℕ, zero, suc, ◌+◌, true, false, List, [], ◌++◌, ltb, length, take}
+use Rattle.std.specs.Prelude.{ℕ, zero, suc, ◌+◌, true, false, Result, Ok, Err, List, [], ◌++◌, ltb, length, take}
 use Rattle.register.specs.Register.{issue_answer, issue_leaves, withdraw_answer, withdraw_leaves}
 use Rattle.commands.specs.declared.Command.{Command}
-use Rattle.commands.specs.declared.Command.TheVariants.{Enter, Act, Unknown, CutShort}
+use Rattle.commands.specs.declared.Command.TheVariants.{Enter, Act}
+use Rattle.commands.specs.declared.Stop.{Stop}
 use Rattle.commands.specs.declared.Order.{Order}
 use Rattle.commands.specs.declared.Order.TheVariants.{Issue, Withdraw, Open, Back, Value, Delta, Forward}
 use Rattle.commands.specs.Commands.{order_size}
+use Rattle.commands.specs.Kinds.{refusal_of}
 use Rattle.walk.specs.Manners.{Manner, open_by, back_by, value_by, ratio_by, forward_by}
 use Rattle.machine.specs.Machine.{Machine, machine_on}
 use Rattle.machine.specs.Rooms.{lent_rows, left_in_rooms, left_in_row, count_in_row}
@@ -35,15 +37,14 @@ manner_transition n (Forward i k) m =
     forward_transition m (count_in_row x m.row o k)
 
 -- A command by them. An entry makes no call.
-unfoldable pub manner_effect : Manner → Command → ℕ → Machine → Effect
-manner_effect n Unknown at m = stop (deck_line 18 at)
-manner_effect n CutShort at m = stop (deck_line 19 at)
-manner_effect n (Enter e) at m = entry_effect e at m
-manner_effect n (Act o) at m = go_on (order_line o (manner_transition n o m).said) (at + order_size o) (manner_transition n o m).next
+unfoldable pub manner_effect : Manner → Result Command Stop → ℕ → Machine → Effect
+manner_effect n (Err s) at m = stop (deck_line (refusal_of s) at)
+manner_effect n (Ok (Enter e)) at m = entry_effect e at m
+manner_effect n (Ok (Act o)) at m = go_on (order_line o (manner_transition n o m).said) (at + order_size o) (manner_transition n o m).next
 
 -- What stands at an offset of a deck.
 abbrev pub Reading : Type 0
-Reading = List ℕ → ℕ → Command
+Reading = List ℕ → ℕ → Result Command Stop
 
 -- The listing by them.
 unfoldable pub manner_listing_from : Reading → Manner → ℕ → List ℕ → ℕ → Machine → List ℕ

@@ -1,10 +1,11 @@
 -- Demand 1's power cuts, runs of decks among them: a number whose withdraw was accepted, in a call that returned or in a run that came so far, is
 -- refused by every later call and order, wherever the power fails.
 -- `m` is the machine that a command meets, `y` a sheet's number, `byte` what is found where the command that was cut was to write.
-use Rattle.std.specs.Prelude.{ℕ, zero, suc, ◌≡◌, Bool, true, false, cond, ◌&&◌, ◌||◌, List, [], ◌∷◌, ◌≢◌, ◌⊎◌, ltb, eqb, length, get_or, set}
+use Rattle.std.specs.Prelude.{ℕ, zero, suc, ◌≡◌, Bool, true, false, cond, ◌&&◌, ◌||◌, Result, Ok, Err, List, [], ◌∷◌, ◌≢◌, ◌⊎◌, ltb, eqb, length, get_or, set}
 use Rattle.register.specs.Rules.{Unissued, Live}
 use Rattle.commands.specs.declared.Command.{Command}
-use Rattle.commands.specs.declared.Command.TheVariants.{Enter, Act, Unknown, CutShort}
+use Rattle.commands.specs.declared.Command.TheVariants.{Enter, Act}
+use Rattle.commands.specs.declared.Stop.{Stop}
 use Rattle.commands.specs.declared.Order.{Order}
 use Rattle.commands.specs.declared.Order.TheVariants.{Issue, Withdraw, Open, Back, Value, Delta, Forward}
 use Rattle.commands.specs.Commands.{command_at}
@@ -35,11 +36,10 @@ found_in_order (Delta j k) m byte = m.register
 found_in_order (Forward i k) m byte = m.register
 
 -- No other command writes.
-unfoldable pub found_in_command : Command → Machine → ℕ → List ℕ
-found_in_command (Act o) m byte = found_in_order o m byte
-found_in_command (Enter e) m byte = m.register
-found_in_command Unknown m byte = m.register
-found_in_command CutShort m byte = m.register
+unfoldable pub found_in_command : Result Command Stop → Machine → ℕ → List ℕ
+found_in_command (Ok (Act o)) m byte = found_in_order o m byte
+found_in_command (Ok (Enter e)) m byte = m.register
+found_in_command (Err s) m byte = m.register
 
 -- What is found where so many commands are done, from an offset on, and the power fails in the next. A run that has ended before left its register.
 unfoldable pub found_from : ℕ → List ℕ → ℕ → Machine → ℕ → List ℕ
@@ -75,11 +75,10 @@ order_withdrew (Value j k) m y = false
 order_withdrew (Delta j k) m y = false
 order_withdrew (Forward i k) m y = false
 
-unfoldable pub command_withdrew : Command → Machine → ℕ → Bool
-command_withdrew (Act o) m y = order_withdrew o m y
-command_withdrew (Enter e) m y = false
-command_withdrew Unknown m y = false
-command_withdrew CutShort m y = false
+unfoldable pub command_withdrew : Result Command Stop → Machine → ℕ → Bool
+command_withdrew (Ok (Act o)) m y = order_withdrew o m y
+command_withdrew (Ok (Enter e)) m y = false
+command_withdrew (Err s) m y = false
 
 -- One of the first so many commands from an offset on is.
 unfoldable pub withdrew_from : ℕ → List ℕ → ℕ → Machine → ℕ → Bool

@@ -1,20 +1,14 @@
 -- The rooms keep their lengths through every order, and the largest sheet fits into them.
-use Prim.Native.Nat.{ℕ, zero, suc, ◌+◌, ◌-◌, ◌≤◌}
-use mathlib.Core.Path.{◌≡◌, refl, sym, ap, ◌∙◌, subst}
-use mathlib.Core.Bool.{Bool, true, false, cond}
-use mathlib.Core.List.{List, ◌++◌}
-use native.Mathlib.Nat.{mul-le-mul}
-use native.Mathlib.Omega.{arith}
-use lib.ListN.{length, take, drop, replicate, length-append, length-drop, length-replicate}
-use lib.Seq.{length-take-le}
+use Rattle.std.proofs.Common.{ℕ, zero, suc, ◌+◌, ◌-◌, ◌≤◌, ◌≡◌, refl, sym, ap, ◌∙◌, subst, Bool, true, false, cond, List, ◌++◌, mul-le-mul, arith}
+use Rattle.std.proofs.Common.{length, take, drop, replicate, length-append, length-drop, length-take-le}
+use lib.ListN.{length-replicate}
 use Rattle.commands.specs.declared.Order.{Order}
 use Rattle.commands.specs.declared.Order.TheVariants.{Issue, Withdraw, Open, Back, Value, Delta, Forward}
 use Rattle.sheet.specs.Terms.{Terms}
 use Rattle.sheet.specs.Brought.{Brought}
 use Rattle.sheet.specs.Limits.{PoolInside}
 use Rattle.rows.specs.Rows.{Rows, row_length}
-use Rattle.figures.specs.declared.Answer.{Answer}
-use Rattle.figures.specs.declared.Answer.TheVariants.{Refused, Done, Position, Worth, Ratio}
+use Rattle.figures.specs.Answer.{Answer, Refused, Done, Position, Worth, Ratio}
 use Rattle.walk.specs.Answers.{said_of, accepted}
 use Rattle.walk.specs.RefusalOrders.{FullRows, open_order, back_order, value_order, ratio_order, forward_order}
 use Rattle.walk.specs.CallRules.{BackSteps}

@@ -1,21 +1,12 @@
 -- Parts of a room, lent and come back.
-use Prim.Native.Nat.{ℕ, suc, ◌+◌, ◌*◌, ◌≤◌, ◌<◌, min}
-use mathlib.Core.Path.{◌≡◌, refl, sym, ap, ◌∙◌}
-use mathlib.Core.Bool.{Bool, true, false, cond}
-use mathlib.Core.List.{List, [], ◌∷◌, ◌++◌}
-use native.Mathlib.Nat.{mul-le-mul}
-use native.Mathlib.Omega.{arith}
-use borrow.Author.Tests.{lt-ltb, le-ltb, ltb-true, ltb-false}
-use lib.Dec.{ltb}
-use lib.IntN.{pos}
-use lib.ListN.{length, get_or, take, drop, take-append-drop, drop_of_length-le}
-use lib.Seq.{take_all, length-take-le}
+use Rattle.std.proofs.Common.{ℕ, suc, ◌+◌, ◌*◌, ◌≤◌, ◌<◌, min, ◌≡◌, refl, sym, ap, ◌∙◌, Bool, true, false, cond, List, [], ◌∷◌, ◌++◌, mul-le-mul}
+use Rattle.std.proofs.Common.{arith, lt-ltb, le-ltb, ltb-true, ltb-false, ltb, pos, length, get_or, take, drop, take-append-drop, drop_of_length-le}
+use Rattle.std.proofs.Common.{take_all, length-take-le}
+use Rattle.refusals.specs.declared.Refusal.{Refusal}
+use Rattle.std.specs.Prelude.{Result, Ok, Err, ⊤}
 use Rattle.sheet.specs.Brought.{Brought}
-use Rattle.refusals.specs.declared.Found.{Found}
-use Rattle.refusals.specs.declared.Found.TheVariants.{Fine}
 use Rattle.refusals.specs.Tests.{first}
-use Rattle.figures.specs.declared.Answer.{Answer}
-use Rattle.figures.specs.declared.Answer.TheVariants.{Refused, Done, Position, Worth, Ratio}
+use Rattle.figures.specs.Answer.{Answer, Done, done_answer}
 use Rattle.walk.specs.declared.Reply.{Reply}
 use Rattle.rows.specs.Rows.{Rows, rows_of, row_length}
 use Rattle.walk.specs.Answers.{Said, said_of, accepted}
@@ -63,16 +54,18 @@ module _ (x : Brought) (ds ps : List ℕ) (k : ℕ) (k_is : k ≡ min (row_lengt
   lent_is = λ j. rows_of (take_min (row_length x.sheet) 1134 k ds d_long k_is j) (take_min (row_length x.sheet) 1134 k ps p_long k_is j)
 
   -- what a call says of the parts, said of the rooms
-  pub rooms_left : (call : Rows → Outcome) {r : Reply} {ds' ps' : List ℕ} → replied r ds' ps' ≡ call (rows_of (take k ds) (take k ps)) →
-      replied r (ds' ++ drop k ds) (ps' ++ drop k ps) ≡ left_in_rooms x (rows_of ds ps) (call (lent_rows x (rows_of ds ps)))
-  rooms_left call {r} {ds'} {ps'} e =
-      (λ j. replied r (ds' ++ drop_min (row_length x.sheet) 1134 k ds d_long k_is j) (ps' ++ drop_min (row_length x.sheet) 1134 k ps p_long k_is j))
+  pub rooms_left : (call : Rows → Outcome) {T : Type 0} (answers : Result T Refusal → Answer) {r : Reply T} {ds' ps' : List ℕ} →
+      replied answers r ds' ps' ≡ call (rows_of (take k ds) (take k ps)) →
+      replied answers r (ds' ++ drop k ds) (ps' ++ drop k ps) ≡ left_in_rooms x (rows_of ds ps) (call (lent_rows x (rows_of ds ps)))
+  rooms_left call answers {r} {ds'} {ps'} e =
+      (λ j. replied answers r (ds' ++ drop_min (row_length x.sheet) 1134 k ds d_long k_is j) (ps' ++ drop_min (row_length x.sheet) 1134 k ps p_long k_is j))
       ∙ ap (left_in_rooms x (rows_of ds ps)) (e ∙ ap call lent_is)
 
   -- the same of a call that only reads them
-  pub rooms_read : (call : Rows → Outcome) {r : Reply} → replied r (take k ds) (take k ps) ≡ call (rows_of (take k ds) (take k ps)) →
-      replied r ds ps ≡ left_in_rooms x (rows_of ds ps) (call (lent_rows x (rows_of ds ps)))
-  rooms_read call {r} e = (λ j. replied r (sym (take-append-drop k ds) j) (sym (take-append-drop k ps) j)) ∙ rooms_left call e
+  pub rooms_read : (call : Rows → Outcome) {T : Type 0} (answers : Result T Refusal → Answer) {r : Reply T} →
+      replied answers r (take k ds) (take k ps) ≡ call (rows_of (take k ds) (take k ps)) →
+      replied answers r ds ps ≡ left_in_rooms x (rows_of ds ps) (call (lent_rows x (rows_of ds ps)))
+  rooms_read call answers {r} e = (λ j. replied answers r (sym (take-append-drop k ds) j) (sym (take-append-drop k ps) j)) ∙ rooms_left call answers e
 
 -- ---- the forward row
 
@@ -80,7 +73,7 @@ chosen : (b : Bool) (l m : List ℕ) → (b ≡ false → l ≡ m) → l ≡ con
 chosen true l m e = refl
 chosen false l m e = e refl
 
-module _ (x : Brought) (register row row' : List ℕ) (a : Answer) (i count k : ℕ) (k_is : k ≡ min (x.sheet.names + 1) 126) (long : length row ≡ 126)
+module _ (x : Brought) (register row row' : List ℕ) (a : Result ⊤ Refusal) (i count k : ℕ) (k_is : k ≡ min (x.sheet.names + 1) 126) (long : length row ≡ 126)
     (fills : forward_outcome a row' ≡ forward_call x register (take k row) i) where
   fills_in : forward_outcome a (row' ++ drop k row) ≡ forward_in_row x register row i
   unfolding forward_in_row
@@ -89,7 +82,7 @@ module _ (x : Brought) (register row row' : List ℕ) (a : Answer) (i count k : 
       ∙ ap (left_in_row x row) (fills ∙ ap (λ (l : List ℕ). forward_call x register l i) (take_min (x.sheet.names + 1) 126 k row long k_is))
 
   -- what is said of a count that a tree may have; a refused call leaves its part, and so the row
-  pub distribution_left : {said : Said} → said ≡ count_said a (row' ++ drop k row) x.sheet.names count →
+  pub distribution_left : {said : Said} → said ≡ count_said (done_answer a) (row' ++ drop k row) x.sheet.names count →
       (accepted said ≡ false → row' ≡ take k row) → said_beside said (row' ++ drop k row) ≡ distribution_in_row x register row i count
   unfolding distribution_in_row count_in_row
   distribution_left {said} e kept =
@@ -98,9 +91,9 @@ module _ (x : Brought) (register row row' : List ℕ) (a : Answer) (i count k : 
       ∙ ap (λ (o : ForwardOutcome). count_in_row x row o count) fills_in
 
   -- an accepted forward leaves a row of n + 1, so there are at most 125 names
-  pub names_few : a ≡ Done → length row' ≡ length (take k row) → ForwardRule x register (take k row) i (forward_result (forward_outcome a row')) → x.sheet.names ≤ 125
+  pub names_few : a ≡ Ok tt → length row' ≡ length (take k row) → ForwardRule x register (take k row) i (forward_result (forward_outcome a row')) → x.sheet.names ≤ 125
   names_few e same f =
-      let yes : accepted (said_of a) ≡ true = ap (λ (b : Answer). accepted (said_of b)) e in
+      let yes : accepted (said_of (done_answer a)) ≡ true = ap (λ (b : Result ⊤ Refusal). accepted (said_of (done_answer b))) e in
       omega (arith, (f.does yes).size, same, length-take-le k row (omega arith))
 
 -- what forward says
@@ -112,26 +105,17 @@ pub said_count : (a : Answer) (row : List ℕ) (n k : ℕ) → a ≡ Done → k 
 unfolding count_said
 said_count a row n k e h = sym (ap (λ (b : Answer). count_said b row n k) e ∙ rw (le-ltb n k h, count_said))
 
--- what is no Done is said as it is
-pub said_other : (a : Answer) (row : List ℕ) (n k : ℕ) → (a ≡ Done → ⊥) → said_of a ≡ count_said a row n k
-unfolding count_said
-said_other (Refused f) row n k t = refl
-said_other Done row n k t = absurd (t refl)
-said_other (Position i) row n k t = refl
-said_other (Worth d p w) row n k t = refl
-said_other (Ratio z) row n k t = refl
-
 -- what it says of a count above the names, by what it is refused for
-off_said : (f : Found) (q row : List ℕ) (o : ForwardOutcome) (n k : ℕ) → o.answer ≡ Done → n < k →
+off_said : (f : Result ⊤ Refusal) (q row : List ℕ) (o : ForwardOutcome) (n k : ℕ) → o.answer ≡ Done → n < k →
     off_tree_said f ≡ count_said (or_forward_outcome f q o).answer row n k
 unfolding off_tree_said or_forward_outcome count_said
-off_said Fine q row o n k e h = said_off o.answer row n k e h
-off_said (Found.Refused r) q row o n k e h = refl
+off_said (Ok tt) q row o n k e h = said_off o.answer row n k e h
+off_said (Err r) q row o n k e h = refl
 
-off_refused : (f : Found) → accepted (off_tree_said f) ≡ false
+off_refused : (f : Result ⊤ Refusal) → accepted (off_tree_said f) ≡ false
 unfolding off_tree_said
-off_refused Fine = refl
-off_refused (Found.Refused r) = refusal_some r
+off_refused (Ok tt) = refl
+off_refused (Err r) = refusal_some r
 
 -- there the row is only read
 module _ (x : Brought) (register row : List ℕ) (i count k : ℕ) (k_is : k ≡ min (x.sheet.names + 1) 126) (long : length row ≡ 126)

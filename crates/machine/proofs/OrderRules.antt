@@ -1,16 +1,13 @@
 -- By the rules of the calls.
-use Prim.Native.Nat.{ℕ, ◌+◌, ◌≤◌}
-use mathlib.Core.Path.{◌≡◌, refl, sym, ap, ◌∙◌}
-use mathlib.Core.Bool.{Bool, true, false, cond, true≢false, false≢true}
-use mathlib.Core.List.{List, [], ◌∷◌, ◌++◌}
-use lib.IntN.{pos}
-use native.Mathlib.Omega.{arith}
-use lib.ListN.{get_or, take, drop, get_or-append}
+use Rattle.std.proofs.Common.{ℕ, ◌+◌, ◌≤◌, ◌≡◌, refl, sym, ap, ◌∙◌, Bool, true, false, cond, true≢false, List, [], ◌∷◌, ◌++◌, pos, arith, get_or}
+use Rattle.std.proofs.Common.{take, drop}
+use Rattle.refusals.specs.declared.Refusal.{Refusal}
+use Rattle.std.specs.Prelude.{Result, Ok, Err, ⊤}
+use mathlib.Core.Bool.{false≢true}
+use lib.ListN.{get_or-append}
 use Rattle.commands.specs.declared.Order.TheVariants.{Issue, Withdraw, Open, Back, Value, Delta, Forward}
-use Rattle.refusals.specs.declared.Found.{Found}
 use Rattle.refusals.specs.Tests.{first}
-use Rattle.figures.specs.declared.Answer.{Answer}
-use Rattle.figures.specs.declared.Answer.TheVariants.{Done}
+use Rattle.figures.specs.Answer.{Answer, Done}
 use Rattle.walk.specs.Answers.{Said, said_of, accepted}
 use Rattle.walk.specs.CallRules.{says}
 use Rattle.walk.specs.Calls.{ForwardOutcome, forward_tests, or_forward_outcome, forward_call}
@@ -25,17 +22,17 @@ use Rattle.machine.specs.OrderRules.{CountRule, OrdersByRules}
 use Rattle.machine.proofs.LentRooms.{said_off, said_count}
 
 -- forward answers a refusal, or that it is done
-is_done : (f : Found) (q : List ℕ) (o : ForwardOutcome) → o.answer ≡ Done → accepted (said_of (or_forward_outcome f q o).answer) ≡ true →
+is_done : (f : Result ⊤ Refusal) (q : List ℕ) (o : ForwardOutcome) → o.answer ≡ Done → accepted (said_of (or_forward_outcome f q o).answer) ≡ true →
     (or_forward_outcome f q o).answer ≡ Done
 unfolding or_forward_outcome
-is_done Found.Fine q o done e = done
-is_done (Found.Refused r) q o done e = absurd (true≢false (sym e ∙ refusal_some r))
+is_done (Ok tt) q o done e = done
+is_done (Err r) q o done e = absurd (true≢false (sym e ∙ refusal_some r))
 
-is_refused : (f : Found) (q : List ℕ) (o : ForwardOutcome) → o.answer ≡ Done → accepted (said_of (or_forward_outcome f q o).answer) ≡ false →
+is_refused : (f : Result ⊤ Refusal) (q : List ℕ) (o : ForwardOutcome) → o.answer ≡ Done → accepted (said_of (or_forward_outcome f q o).answer) ≡ false →
     (row : List ℕ) (n k : ℕ) → count_said (or_forward_outcome f q o).answer row n k ≡ said_of (or_forward_outcome f q o).answer
 unfolding or_forward_outcome count_said
-is_refused Found.Fine q o done e row n k = absurd (false≢true (sym e ∙ ap (λ (a : Answer). accepted (said_of a)) done))
-is_refused (Found.Refused r) q o done e row n k = refl
+is_refused (Ok tt) q o done e row n k = absurd (false≢true (sym e ∙ ap (λ (a : Answer). accepted (said_of a)) done))
+is_refused (Err r) q o done e row n k = refl
 
 -- what is made of it
 module _ (m : Machine) (i k : ℕ) where

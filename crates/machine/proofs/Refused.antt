@@ -1,9 +1,5 @@
 -- An order that is refused leaves the machine as it was.
-use Prim.Native.Nat.{ℕ}
-use mathlib.Core.Path.{◌≡◌, ap, ◌∙◌}
-use mathlib.Core.Bool.{Bool, false, cond}
-use mathlib.Core.List.{List, ◌++◌}
-use lib.ListN.{take, drop, take-append-drop}
+use Rattle.std.proofs.Common.{ℕ, ◌≡◌, ap, ◌∙◌, Bool, false, cond, List, ◌++◌, take, drop, take-append-drop}
 use Rattle.commands.specs.declared.Order.TheVariants.{Issue, Withdraw, Open, Back, Value, Delta, Forward}
 use Rattle.rows.specs.Rows.{Rows, rows_of, row_length}
 use Rattle.walk.specs.Answers.{Said, said_of, accepted}

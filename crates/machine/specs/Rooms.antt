@@ -1,12 +1,10 @@
 -- 'The program lends rows of the right length': a call is lent the first numbers of each room, and what it leaves takes their place.
 -- A room that has fewer is lent whole; its pool is then refused. (document 01, 'Deck and printing program')
-use Rattle.std.specs.Prelude.{ℕ, ◌+◌, true, false, cond, List, [], ◌∷◌, ◌++◌, ltb, pos, get_or, take, drop}
+use Rattle.refusals.specs.declared.Refusal.{Refusal}
+use Rattle.std.specs.Prelude.{ℕ, ◌+◌, true, false, cond, List, [], ◌∷◌, ◌++◌, ltb, pos, get_or, take, drop, Result, Ok, Err, ⊤}
 use Rattle.sheet.specs.Brought.{Brought}
 use Rattle.rows.specs.Rows.{Rows, row_length}
-use Rattle.refusals.specs.declared.Found.{Found}
-use Rattle.refusals.specs.declared.Found.TheVariants.{Fine}
-use Rattle.figures.specs.declared.Answer.{Answer}
-use Rattle.figures.specs.declared.Answer.TheVariants.{Refused, Done, Position, Worth, Ratio}
+use Rattle.figures.specs.Answer.{Answer, Refused, Done, Position, Worth, Ratio}
 use Rattle.walk.specs.declared.Walk.{Walk}
 use Rattle.walk.specs.Answers.{Said, said_of, accepted}
 use Rattle.walk.specs.CallRules.{ForwardResult}
@@ -68,6 +66,6 @@ unfoldable pub distribution_in_row : Brought → List ℕ → List ℕ → ℕ �
 distribution_in_row x register row i k = count_in_row x row (forward_in_row x register row i) k
 
 -- The same of a count above n, by what the call is refused for: the row is only read.
-unfoldable pub off_tree_said : Found → Said
-off_tree_said Fine = record { number = 14; values = [] }
-off_tree_said (Found.Refused f) = said_of (Refused f)
+unfoldable pub off_tree_said : Result ⊤ Refusal → Said
+off_tree_said (Ok tt) = record { number = 14; values = [] }
+off_tree_said (Err f) = said_of (Refused f)

@@ -2,8 +2,7 @@
 use Rattle.std.specs.Prelude.{ℕ, ◌≡◌, false, List}
 use Rattle.commands.specs.declared.Order.{Order}
 use Rattle.commands.specs.declared.Order.TheVariants.{Issue, Withdraw, Open, Back, Value, Delta, Forward}
-use Rattle.register.specs.declared.answers.WriteAnswer as Register
-use Rattle.register.specs.Register.{issue_answer, issue_leaves, withdraw_answer, withdraw_leaves}
+use Rattle.register.specs.Register.{WriteAnswer, issue_answer, issue_leaves, withdraw_answer, withdraw_leaves}
 use Rattle.walk.specs.Answers.{Said, said_of, said_by, accepted}
 use Rattle.walk.specs.CallRules.{ForwardResult}
 use Rattle.walk.specs.Calls.{Outcome}
@@ -22,7 +21,7 @@ abbrev pub transition_by : OrderAnswer → Machine → Transition
 transition_by a m = record { said = answer_said a; next = m }
 
 -- Issue and withdraw change the register alone.
-abbrev pub register_transition : Machine → Register.WriteAnswer → List ℕ → Transition
+abbrev pub register_transition : Machine → WriteAnswer → List ℕ → Transition
 register_transition m a register =
     record {
       said = said_by a;

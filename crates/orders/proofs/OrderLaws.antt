@@ -1,19 +1,15 @@
 -- What the functions of `orders` do for each order, on plain values.
-use Prim.Native.Nat.{ℕ}
-use mathlib.Core.Path.{◌≡◌, refl, sym, ap, ◌∙◌}
-use mathlib.Core.List.{List}
-use native.Mathlib.Omega.{arith}
-use lib.ListN.{length}
+use Rattle.std.proofs.Common.{ℕ, ◌≡◌, refl, sym, ap, ◌∙◌, List, arith, length}
 use Rattle.register.specs.Register.{issue_answer, issue_leaves, withdraw_answer, withdraw_leaves}
 use Rattle.sheet.specs.Brought.{Brought}
 use Rattle.commands.specs.declared.Order.{Order}
 use Rattle.commands.specs.declared.Order.TheVariants.{Issue, Withdraw, Open, Back, Value, Delta, Forward}
-use Rattle.walk.specs.declared.Reply.{Reply}
 use Rattle.walk.specs.declared.Walk.{Walk}
 use Rattle.rows.specs.Rows.{Rows, rows_of}
 use Rattle.walk.specs.Answers.{Said, said_of, said_by}
-use Rattle.walk.specs.Calls.{Outcome, replied}
-use Rattle.walk.specs.CallRules.{ForwardResult}
+use Rattle.walk.specs.Calls.{Outcome}
+use Rattle.walk.specs.OurEngine.{walk_result}
+use Rattle.walk.specs.CallRules.{WalkResult, ForwardResult}
 use Rattle.entries.specs.Draft.{Draft}
 use Rattle.machine.specs.Machine.{Machine, machine_of, RoomLengths}
 use Rattle.machine.specs.Rooms.{open_in_rooms, back_in_rooms, value_in_rooms, ratio_in_rooms, said_beside, distribution_in_row}
@@ -22,22 +18,30 @@ use Rattle.machine.specs.OrderCalls.{no_reading, reading_of, call_of}
 
 -- ---- the call of the walk that an order makes
 
-module _ (o : Order) (x : Brought) (register : List ℕ) (w : Walk) (rooms : Rows) {out : Outcome} where
-  pub value_reads : {j k : ℕ} → o ≡ Value j k → out ≡ value_in_rooms x register w rooms j k → out ≡ reading_of o x register w rooms
+module _ (o : Order) (x : Brought) (register : List ℕ) (w : Walk) (rooms : Rows) {out : Outcome} {said : Said} (says : said ≡ said_of out.answer) where
+  -- what a call hands over, said as an order's answer
+  result_said : {to : Outcome} → out ≡ to → record { said = said; walk = out.walk; rows = out.rows } ≡ walk_result to
+  result_said p = (λ j. record { said = says j; walk = out.walk; rows = out.rows }) ∙ ap walk_result p
+
+  pub value_reads : {j k : ℕ} → o ≡ Value j k → out ≡ value_in_rooms x register w rooms j k
+      → record { said = said; walk = out.walk; rows = out.rows } ≡ walk_result (reading_of o x register w rooms)
   unfolding reading_of
-  value_reads q p = p ∙ sym (ap (λ (y : Order). reading_of y x register w rooms) q)
+  value_reads q p = result_said (p ∙ sym (ap (λ (y : Order). reading_of y x register w rooms) q))
 
-  pub delta_reads : {j k : ℕ} → o ≡ Delta j k → out ≡ ratio_in_rooms x register w rooms j k → out ≡ reading_of o x register w rooms
+  pub delta_reads : {j k : ℕ} → o ≡ Delta j k → out ≡ ratio_in_rooms x register w rooms j k
+      → record { said = said; walk = out.walk; rows = out.rows } ≡ walk_result (reading_of o x register w rooms)
   unfolding reading_of
-  delta_reads q p = p ∙ sym (ap (λ (y : Order). reading_of y x register w rooms) q)
+  delta_reads q p = result_said (p ∙ sym (ap (λ (y : Order). reading_of y x register w rooms) q))
 
-  pub open_calls : o ≡ Open → out ≡ open_in_rooms x register w rooms → out ≡ call_of o x register w rooms
+  pub open_calls : o ≡ Open → out ≡ open_in_rooms x register w rooms
+      → record { said = said; walk = out.walk; rows = out.rows } ≡ walk_result (call_of o x register w rooms)
   unfolding call_of
-  open_calls q p = p ∙ sym (ap (λ (y : Order). call_of y x register w rooms) q)
+  open_calls q p = result_said (p ∙ sym (ap (λ (y : Order). call_of y x register w rooms) q))
 
-  pub back_calls : {c : ℕ} → o ≡ Back c → out ≡ back_in_rooms x register w rooms c → out ≡ call_of o x register w rooms
+  pub back_calls : {c : ℕ} → o ≡ Back c → out ≡ back_in_rooms x register w rooms c
+      → record { said = said; walk = out.walk; rows = out.rows } ≡ walk_result (call_of o x register w rooms)
   unfolding call_of
-  back_calls q p = p ∙ sym (ap (λ (y : Order). call_of y x register w rooms) q)
+  back_calls q p = result_said (p ∙ sym (ap (λ (y : Order). call_of y x register w rooms) q))
 
 -- the other orders read nothing
 pub nothing_read : (o : Order) (x : Brought) (register : List ℕ) (w : Walk) (rooms : Rows) →
@@ -104,11 +108,11 @@ module _ (o : Order) (e : Draft) (w : Walk) (register ds ps row : List ℕ) wher
   unfolding transition_of
   withdraw_acts q v s l = (λ j. record { said = s j; next = machine_of e (l j) (v j) ds ps row }) ∙ as_is q
 
-  pub call_acts : {r : Reply} {said : Said} {ds' ps' : List ℕ} → Called o →
-      replied r ds' ps' ≡ call_of o e.brought register w (rows_of ds ps) → said ≡ said_of r.answer →
-      transition_said said (machine_of e register r.walk ds' ps' row) ≡ transition_of o before
-  call_acts {r} {ds' = ds'} {ps' = ps'} t p v =
-      (λ j. record { said = v j; next = machine_of e register r.walk ds' ps' row }) ∙ ap (call_transition before) p ∙ call_acted o before t
+  pub call_acts : {said : Said} {w' : Walk} {ds' ps' : List ℕ} → Called o →
+      record { said = said; walk = w'; rows = rows_of ds' ps' } ≡ walk_result (call_of o e.brought register w (rows_of ds ps)) →
+      transition_said said (machine_of e register w' ds' ps' row) ≡ transition_of o before
+  call_acts t p =
+      ap (λ (r : WalkResult). transition_said r.said (machine_of e register r.walk r.rows.defaults r.rows.premiums row)) p ∙ call_acted o before t
 
   pub forward_acts : {i k : ℕ} {said : Said} {row' : List ℕ} → o ≡ Forward i k →
       said_beside said row' ≡ distribution_in_row e.brought register row i k → transition_said said (machine_of e register w ds ps row') ≡ transition_of o before

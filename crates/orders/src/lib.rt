@@ -7,7 +7,7 @@ ghost use Rattle.register.specs.Register.{issue_answer, issue_leaves, withdraw_a
 ghost use Rattle.sheet.specs.Spans.{brought_in};
 ghost use Rattle.rows.specs.Rows.{rows_of};
 ghost use Rattle.walk.specs.Answers.{said_by};
-ghost use Rattle.walk.specs.Calls.{replied};
+ghost use Rattle.walk.specs.OurEngine.{walk_result};
 ghost use Rattle.answers.specs.OrderAnswers.{answer_said};
 ghost use Rattle.machine.specs.Machine.{machine_in, RoomLengths};
 ghost use Rattle.machine.specs.Transitions.{transition_by, transition_of};
@@ -17,7 +17,7 @@ use answers::OrderAnswer;
 use commands::Order;
 use entries::Layout;
 use sheet::Sheet;
-use walk::{Reply, Walk};
+use walk::Walk;
 
 // What an order answers, with the walk handed back.
 #[derive(Clone, Copy)]
@@ -61,25 +61,33 @@ fn read(
     register: &[u8],
     defaults: &[u64],
     premiums: &[u64],
-) -> Reply
+) -> Response
     requires { (length defaults.now ≡ 1134) × (length premiums.now ≡ 1134) }
-    ensures { replied result defaults.now premiums.now
-        ≡ reading_of order (brought_in sheet numbers.now) register.now walk
-        (rows_of defaults.now premiums.now) }
+    ensures { record { said = answer_said result.answer; walk = result.walk; rows = rows_of defaults.now premiums.now }
+        ≡ walk_result (reading_of order (brought_in sheet numbers.now) register.now walk
+        (rows_of defaults.now premiums.now)) }
 {
     match order {
         Order::Value { tranche, count } => {
-            rooms::value(
+            let reply = rooms::value(
                 walk, sheet, numbers, register, defaults, premiums, tranche, count,
-            )
+            );
+            Response {
+                answer: reply.answer.into(),
+                walk: reply.walk,
+            }
         }
         Order::Delta { tranche, count } => {
-            rooms::hedge_ratio(
+            let reply = rooms::hedge_ratio(
                 walk, sheet, numbers, register, defaults, premiums, tranche, count,
-            )
+            );
+            Response {
+                answer: reply.answer.into(),
+                walk: reply.walk,
+            }
         }
-        _ => Reply {
-            answer: walk::Answer::Done,
+        _ => Response {
+            answer: OrderAnswer::Done,
             walk,
         },
     }
@@ -94,17 +102,27 @@ fn call(
     register: &[u8],
     defaults: &mut [u64],
     premiums: &mut [u64],
-) -> Reply
+) -> Response
     requires { (length defaults.old ≡ 1134) × (length premiums.old ≡ 1134) }
-    ensures { replied result defaults.new premiums.new
-        ≡ call_of order (brought_in sheet numbers.now) register.now walk
-        (rows_of defaults.old premiums.old) }
+    ensures { record { said = answer_said result.answer; walk = result.walk; rows = rows_of defaults.new premiums.new }
+        ≡ walk_result (call_of order (brought_in sheet numbers.now) register.now walk
+        (rows_of defaults.old premiums.old)) }
 {
     match order {
-        Order::Open => rooms::open(walk, sheet, numbers, register, defaults, premiums),
-        Order::Back(count) => rooms::back(
-            walk, sheet, numbers, register, defaults, premiums, count,
-        ),
+        Order::Open => {
+            let reply = rooms::open(walk, sheet, numbers, register, defaults, premiums);
+            Response {
+                answer: reply.answer.into(),
+                walk: reply.walk,
+            }
+        }
+        Order::Back(count) => {
+            let reply = rooms::back(walk, sheet, numbers, register, defaults, premiums, count);
+            Response {
+                answer: reply.answer.into(),
+                walk: reply.walk,
+            }
+        }
         _ => read(order, walk, sheet, numbers, register, defaults, premiums),
     }
 }
@@ -135,12 +153,6 @@ pub fn act(
             let answer = rooms::forward(sheet, numbers, register, row, step, count);
             Response { answer, walk }
         }
-        _ => {
-            let reply = call(order, walk, sheet, numbers, register, defaults, premiums);
-            let walk = reply.walk;
-            let said = reply.answer;
-            let answer = answers::of_walk(said);
-            Response { answer, walk }
-        }
+        _ => call(order, walk, sheet, numbers, register, defaults, premiums),
     }
 }

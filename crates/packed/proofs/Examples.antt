@@ -1,5 +1,5 @@
 -- The images of specs/Examples.antt, by computation.
-use mathlib.Core.Path.{refl}
+use Rattle.std.proofs.Common.{refl}
 use Rattle.images.specs.Images.{two_digits, packed_value, above_nine, digits_bad, digit_pair, image_of}
 use Rattle.packed.specs.Examples.{Images}
 

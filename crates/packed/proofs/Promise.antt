@@ -1,27 +1,22 @@
 -- Our reading and writing keep the promise, and no others do.
-use Prim.Native.Nat.{ℕ, suc, ◌≤◌, ◌<◌}
-use mathlib.Core.Path.{◌≡◌, refl, sym, ◌∙◌, ap, subst}
-use mathlib.Core.Logic.{◌≢◌, ◌⊎◌, inl, inr}
-use mathlib.Core.Bool.{Bool, true, false, true≢false}
-use mathlib.Core.List.{List}
+use Rattle.std.proofs.Common.{Result, ℕ, suc, ◌≤◌, ◌<◌, ◌≡◌, refl, sym, ◌∙◌, ap, subst, ◌≢◌, ◌⊎◌, inl, inr, Bool, true, false, true≢false, List, arith, length, get_or}
+use Rattle.std.specs.Prelude.{⊤}
+use Rattle.std.proofs.lemmas.Bool.{cases_lt}
 use native.Mathlib.Decide.{ℕ_discrete}
-use native.Mathlib.Omega.{arith}
-use lib.ListN.{length, get_or}
 use Rattle.images.specs.Images.{packed_value, Digits, digits_bad, IsImage, image_of}
 use Rattle.images.proofs.Digits.{good_digits, digits_good, bad_digits}
 use Rattle.images.proofs.Images.{is_image, image_alone}
-use Rattle.packed.specs.declared.Reading.{Reading}
-use Rattle.packed.specs.declared.Writing.{Writing}
-use Rattle.packed.specs.Answers.{read_answer, write_answer, left_by, write_leaves}
+use Rattle.packed.specs.declared.ImageRefusal.{ImageRefusal}
+use Rattle.packed.specs.Answers.{read_answer, write_answer, left_by}
 use Rattle.packed.specs.Promise.{ReadResult, WriteResult, Codec, accepts, refuses, ReadRule, WriteRule, Keeps, read_by, written_by, ours}
-use Rattle.packed.proofs.Answers.{over_or_within, read_length, read_digit, read_limit, read_value}
+use Rattle.packed.proofs.Answers.{read_length, read_digit, read_limit, read_value}
 use Rattle.packed.proofs.Answers.{write_length, write_limit, write_value, written_within}
 
 -- ---- the rules
 
 -- What our calls give back, by the answer.
 module _ (l : List ℕ) where
-  gives : {a : Reading} → read_answer l ≡ a → ours.read l ≡ read_by a
+  gives : {a : Result ℕ ImageRefusal} → read_answer l ≡ a → ours.read l ≡ read_by a
   gives e = ap read_by e
 
   our_reading : ReadRule l (ours.read l)
@@ -34,7 +29,7 @@ module _ (l : List ℕ) where
       }
 
 module _ (l : List ℕ) (v : ℕ) where
-  leaves : {a : Writing} → write_answer l v ≡ a → ours.write l v ≡ written_by a (left_by a l v)
+  leaves : {a : Result ⊤ ImageRefusal} → write_answer l v ≡ a → ours.write l v ≡ written_by a (left_by a l v)
   leaves e = ap (λ a. written_by a (left_by a l v)) e
 
   our_image : length l ≡ 4 → v ≤ 10_000_000 → ours.write l v ≡ record { number = 0; left = image_of v }
@@ -48,18 +43,12 @@ module _ (l : List ℕ) (v : ℕ) where
         accepted = λ h o. (ap (λ r. r.number) (our_image h o), subst (λ r. IsImage v r.left) (sym (our_image h o)) (is_image v o));
       }
 
--- What the contracts say: the equations, and with them the rules.
-pub read_meets : (l : List ℕ) {a : Reading} → a ≡ read_answer l → (a ≡ read_answer l) × ReadRule l (read_by a)
-read_meets l e = (e, subst (λ b. ReadRule l (read_by b)) (sym e) (our_reading l))
+-- What gives back as ours keeps the rules.
+pub read_rule : (l : List ℕ) (o : ReadResult) → o ≡ ours.read l → ReadRule l o
+read_rule l o e = subst (ReadRule l) (sym e) (our_reading l)
 
-abbrev pub WriteMeets : List ℕ → ℕ → Writing → List ℕ → Type 0
-WriteMeets l v a left = (a ≡ write_answer l v) × ((left ≡ write_leaves l v) × WriteRule l v (written_by a left))
-
-pub write_meets : (l : List ℕ) (v : ℕ) {a : Writing} {left : List ℕ} → a ≡ write_answer l v → left ≡ left_by a l v → WriteMeets l v a left
-write_meets l v {a} e k =
-    let leaves : _ ≡ write_leaves l v = k ∙ ap (λ b. left_by b l v) e in
-    let rule = subst (λ b. WriteRule l v (written_by b (write_leaves l v))) (sym e) (our_writing l v) in
-    (e, (leaves, subst (λ x. WriteRule l v (written_by a x)) (sym leaves) rule))
+pub write_rule : (l : List ℕ) (v : ℕ) (o : WriteResult) → o ≡ ours.write l v → WriteRule l v o
+write_rule l v o e = subst (WriteRule l v) (sym e) (our_writing l v)
 
 -- ---- nothing else keeps them
 
@@ -71,7 +60,7 @@ pub data Says (l : List ℕ) : Type 0 where
   good : length l ≡ 4 → Digits l → packed_value l ≤ 10_000_000 → Says l
 
 says : (l : List ℕ) → Says l
-says l = go (ℕ_discrete (length l) 4) (digits_bad l) refl (over_or_within 10_000_000 (packed_value l))
+says l = go (ℕ_discrete (length l) 4) (digits_bad l) refl (cases_lt 10_000_000 (packed_value l))
   where
     go : Dec (length l ≡ 4) → (b : Bool) → digits_bad l ≡ b → (10_000_000 < packed_value l) ⊎ (packed_value l ≤ 10_000_000) → Says l
     go (no h) b e d = wrong h
@@ -89,7 +78,7 @@ read_once l a b r s = go (says l)
     go (good h d o) = r.accepted h d o ∙ sym (s.accepted h d o)
 
 write_once : (l : List ℕ) (v : ℕ) (a b : WriteResult) → WriteRule l v a → WriteRule l v b → a ≡ b
-write_once l v a b r s = go (ℕ_discrete (length l) 4) (over_or_within 10_000_000 v)
+write_once l v a b r s = go (ℕ_discrete (length l) 4) (cases_lt 10_000_000 v)
   where
     go : Dec (length l ≡ 4) → (10_000_000 < v) ⊎ (v ≤ 10_000_000) → a ≡ b
     go (no h) d = r.wrong_length h ∙ sym (s.wrong_length h)

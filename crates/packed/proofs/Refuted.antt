@@ -1,17 +1,10 @@
 -- No wrong reading or writing keeps the promise: each tells or leaves something else than ours at the bytes named.
-use Prim.Native.Nat.{ℕ, ◌+◌, ◌*◌, ◌/◌, ◌%◌}
-use mathlib.Core.Path.{◌≡◌, refl, sym, ◌∙◌, ap}
-use mathlib.Core.Bool.{Bool, true, false, cond, not, ◌||◌}
-use mathlib.Core.List.{List, [], ◌∷◌}
-use native.Mathlib.Omega.{arith}
+use Rattle.std.proofs.Common.{Ok, Err, ℕ, ◌+◌, ◌*◌, ◌/◌, ◌%◌, ◌≡◌, refl, sym, ◌∙◌, ap, Bool, true, false, cond, not, ◌||◌, List, [], ◌∷◌, arith, ne_eqb, eqb, ltb, length, get_or}
+use Rattle.std.proofs.Math.Bool.{or-false}
 use native.Mathlib.Decide.{ℕ_discrete}
-use borrow.Author.Tests.{ne_eqb}
-use lib.Dec.{eqb, ltb}
-use lib.ListN.{length, get_or}
 use Rattle.images.specs.Images.{two_digits, packed_value, above_nine, digits_bad, digit_pair, image_of}
 use Rattle.images.proofs.Images.{four_bytes}
-use Rattle.packed.specs.declared.Reading.TheVariants as Reading
-use Rattle.packed.specs.declared.Writing.TheVariants as Writing
+use Rattle.packed.specs.declared.ImageRefusal.{ImageRefusal}
 use Rattle.packed.specs.Answers.{reading_number, reading_values, writing_number, left_by}
 use Rattle.packed.specs.Promise.{ReadResult, WriteResult, Codec, Keeps, ours}
 use Rattle.packed.specs.Refuted.{least_first, halves_exchanged, binary_read, last_byte_lost, limit_first, digit_first, any_length, five_taken, any_digit}
@@ -86,7 +79,7 @@ none_keeps =
 
 same_reading : (s d o : Bool) (v : ℕ) →
     judged_read ((not s, 2) ∷ (d, 30) ∷ (o, 8) ∷ []) v
-    ≡ (let a = cond s (cond d Reading.Digit (cond o Reading.OverLimit (Reading.Read v))) Reading.Length in
+    ≡ (let a = cond s (cond d (Err ImageRefusal.Digit) (cond o (Err ImageRefusal.OverLimit) (Ok v))) (Err ImageRefusal.Length) in
     record { number = reading_number a; values = reading_values a })
 same_reading false d o v = refl
 same_reading true true o v = refl
@@ -95,7 +88,7 @@ same_reading true false false v = refl
 
 same_writing : (s o : Bool) (l : List ℕ) (v : ℕ) →
     judged_write ((not s, 2) ∷ (o, 8) ∷ []) (image_of v) l
-    ≡ (let a = cond s (cond o Writing.OverLimit Writing.Written) Writing.Length in
+    ≡ (let a = cond s (cond o (Err ImageRefusal.OverLimit) (Ok tt)) (Err ImageRefusal.Length) in
     record { number = writing_number a; left = left_by a l v })
 same_writing false o l v = refl
 same_writing true true l v = refl
@@ -113,10 +106,6 @@ exchange false true true d = refl
 exchange false true false d = refl
 exchange false false c d = refl
 
-or_nothing : (a : Bool) → (a || false) ≡ a
-or_nothing true = refl
-or_nothing false = refl
-
 -- Byte by byte, whatever the order of the half bytes.
 abbrev any_above : List ℕ → Bool
 any_above [] = false
@@ -132,7 +121,7 @@ any_of_four : (a b c d : ℕ) → any_above (a ∷ b ∷ c ∷ d ∷ []) ≡ dig
 unfolding digits_bad above_nine
 any_of_four a b c d =
     ap (λ x. (ltb 9 (a / 16) || ltb 9 (a % 16)) || ((ltb 9 (b / 16) || ltb 9 (b % 16)) || ((ltb 9 (c / 16) || ltb 9 (c % 16)) || x)))
-    (or_nothing (ltb 9 (d / 16) || ltb 9 (d % 16)))
+    (or-false (ltb 9 (d / 16) || ltb 9 (d % 16)))
 
 same_digits : (l : List ℕ) → length l ≡ 4 → (high_above 9 l || low_above 9 l) ≡ digits_bad l
 same_digits l e =

@@ -1,8 +1,7 @@
 -- The promise of packed coupons (T-14), of any two functions in the place of the calls: `Keeps`.
-use Rattle.std.specs.Prelude.{ℕ, ◌≤◌, ◌<◌, ◌≡◌, ◌≢◌, List, [], ◌∷◌, length}
+use Rattle.std.specs.Prelude.{ℕ, ◌≤◌, ◌<◌, ◌≡◌, ◌≢◌, List, [], ◌∷◌, length, Result, ⊤}
 use Rattle.images.specs.Images.{Digits, IsImage, packed_value}
-use Rattle.packed.specs.declared.Reading.{Reading}
-use Rattle.packed.specs.declared.Writing.{Writing}
+use Rattle.packed.specs.declared.ImageRefusal.{ImageRefusal}
 use Rattle.packed.specs.Answers.{reading_number, reading_values, writing_number, read_answer, write_answer, write_leaves}
 
 -- What a reading gives back: 0 and the coupon, or a refusal's number alone.
@@ -58,10 +57,10 @@ pub record Keeps (c : Codec) : Type 0 where
       c.write lent coupon ≡ record { number = 0; left = image }
 
 -- An answer of the code, and the bytes left with it, as these results.
-abbrev pub read_by : Reading → ReadResult
+abbrev pub read_by : Result ℕ ImageRefusal → ReadResult
 read_by answer = record { number = reading_number answer; values = reading_values answer }
 
-abbrev pub written_by : Writing → List ℕ → WriteResult
+abbrev pub written_by : Result ⊤ ImageRefusal → List ℕ → WriteResult
 written_by answer left = record { number = writing_number answer; left = left }
 
 -- Ours: what the contracts of `packed::read` and `packed::write` say.

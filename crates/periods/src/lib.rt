@@ -9,16 +9,7 @@ ghost use Rattle.sheet.specs.Periods.{begun, period_of};
 fn periods_begun(starts: &[u64], step: usize) -> usize
     ensures { result ≡ begun starts.now step }
 {
-    let size = starts.len();
-    let mut count = 0;
-    let mut j = 0;
-    while j < size {
-        if starts[j] <= step as u64 {
-            count += 1;
-        }
-        j += 1;
-    }
-    count
+    starts.iter().filter(|start| **start <= step as u64).count()
 }
 
 // Where the hazards of a step's period begin.
@@ -26,9 +17,5 @@ pub fn hazards_from(names: usize, starts: &[u64], step: usize) -> usize
     requires { (names ≤ 125) × (length starts.now ≤ 16) }
     ensures { result ≡ period_of starts.now step * names }
 {
-    let count = periods_begun(starts, step);
-    if count == 0 {
-        return 0;
-    }
-    (count - 1) * names
+    periods_begun(starts, step).saturating_sub(1) * names
 }

@@ -1,15 +1,9 @@
 -- What the definitions of turns come to, case by case. Assumes nothing.
-use mathlib.Core.Path.{◌≡◌, refl, sym, ap, ◌∙◌}
-use mathlib.Core.Bool.{Bool, true, false, cond, true≢false}
-use mathlib.Core.List.{List, [], ◌∷◌}
-use Prim.Native.Nat.{ℕ, zero, suc, ◌+◌, ◌-◌, ◌<◌, ◌≤◌}
-use native.Mathlib.Omega.{arith}
-use lib.ListN.{length, get_or, drop}
-use lib.Seq.{drop-cons, drop-length}
-use native.Mathlib.Numerals.{add-one}
-use lib.Dec.{ltb, leb}
-use borrow.Author.Tests.{lt-ltb, le-ltb, le-leb, lt-leb, ltb-true, ltb-false, leb-true, leb-false}
-use Rattle.places.specs.Places.{next_place, first_of, chosen, one_off, rests, turn_then, turns_of, any_over, taken}
+use borrow.Author.Tests.{lt-leb}
+use Rattle.std.proofs.Common.{◌≡◌, refl, sym, ap, ◌∙◌, Bool, true, false, cond, true≢false, List, ◌∷◌, ℕ, zero, suc, ◌+◌, ◌-◌, ◌<◌, ◌≤◌, arith}
+use Rattle.std.proofs.Common.{length, get_or, ltb, leb, lt-ltb, le-ltb, le-leb, ltb-true, ltb-false, leb-true, leb-false, Some, None}
+use Rattle.std.proofs.lemmas.Option.{cond_some, none-some}
+use Rattle.places.specs.Places.{next_place, first_of, chosen, choice, one_off, rests, turn_then, turns_of, any_over, taken}
 
 pub next_more : (n p : ℕ) → p + 1 < n → next_place n p ≡ p + 1
 unfolding next_place
@@ -48,10 +42,6 @@ pub over_miss : (x : ℕ) (l : List ℕ) (max : ℕ) → x ≤ max → any_over 
 unfolding any_over
 over_miss x l max h = rw (le-ltb max x h)
 
-pub over_none : (max : ℕ) → any_over [] max ≡ false
-unfolding any_over
-over_none max = refl
-
 pub next_below : (n p : ℕ) → p < n → next_place n p < n
 next_below n p h = by_case n p h (ltb (p + 1) n) refl
   where
@@ -61,36 +51,38 @@ next_below n p h = by_case n p h (ltb (p + 1) n) refl
 
 -- The search so far: k places are passed, and p is the last of them.
 module _ (l : List ℕ) (last p k r : ℕ) (so_far : chosen l last ≡ first_of l p (length l - k)) (step : r ≡ next_place (length l) p) where
-  pub chosen_hit : k < length l → 0 < get_or l r 0 → r ≡ chosen l last
-  chosen_hit h some = step ∙ sym (so_far ∙ ap (first_of l p) (sub_suc (length l) k h) ∙ first_hit l p (length l - (k + 1)) (rw step at some))
+  chosen_hit : k < length l → 0 < get_or l r 0 → chosen l last ≡ r
+  chosen_hit h some =
+      so_far ∙ ap (first_of l p) (sub_suc (length l) k h) ∙ first_hit l p (length l - (k + 1)) (rw step at some) ∙ sym step
+
+  pub choice_hit : k < length l → 0 < get_or l r 0 → r < length l → Some r ≡ choice l last
+  choice_hit h some below = rw (chosen_hit h some, lt-ltb r (length l) below)
 
   pub chosen_on : k < length l → get_or l r 0 ≤ 0 → chosen l last ≡ first_of l r (length l - (k + 1))
   chosen_on h none = so_far ∙ ap (first_of l p) (sub_suc (length l) k h) ∙ first_miss l p (length l - (k + 1)) (rw step at none)
       ∙ ap (λ (x : ℕ). first_of l x (length l - (k + 1))) (sym step)
 
-  pub in_table : p < length l → r < length l
-  in_table h = rw step (next_below (length l) p h)
-
-pub chosen_none : (l : List ℕ) (last p k : ℕ) → chosen l last ≡ first_of l p (length l - k) → length l ≤ k → length l ≡ chosen l last
+pub choice_ends : (l : List ℕ) (last p k : ℕ) → chosen l last ≡ first_of l p (length l - k) → length l ≤ k → None ≡ choice l last
 unfolding first_of
-chosen_none l last p k e h = sym (e ∙ ap (first_of l p) (let z : length l - k ≡ 0 = omega arith in z))
+choice_ends l last p k e h =
+    let none : chosen l last ≡ length l = e ∙ ap (first_of l p) (let z : length l - k ≡ 0 = omega arith in z) in
+    rw (none, le-ltb (length l) (length l) (omega arith))
 
 pub chosen_starts : (l : List ℕ) (last : ℕ) → chosen l last ≡ first_of l last (length l - 0)
 unfolding chosen
 chosen_starts l last = ap (first_of l last) (let z : length l ≡ length l - 0 = omega arith in z)
 
-pub over_found : (l : List ℕ) (max i : ℕ) → any_over l max ≡ any_over (drop i l) max → i < length l → max < get_or l i 0 → true ≡ any_over l max
-over_found l max i e h over = sym (e ∙ ap (λ (t : List ℕ). any_over t max) (drop-cons l i 0 h) ∙ over_hit (get_or l i 0) (drop (suc i) l) max over)
+-- What a choice tells.
+module _ (l : List ℕ) (last : ℕ) where
+  pub of_some : (p : ℕ) → Some p ≡ choice l last → (p ≡ chosen l last) × (p < length l)
+  of_some p e = let h = cond_some _ _ _ (sym e) in (sym h.1, rw h.1 at (ltb-true _ _ h.0))
 
-pub over_on : (l : List ℕ) (max i : ℕ) → any_over l max ≡ any_over (drop i l) max → i < length l → get_or l i 0 ≤ max →
-    any_over l max ≡ any_over (drop (i + 1) l) max
-over_on l max i e h fine = e ∙ ap (λ (t : List ℕ). any_over t max) (drop-cons l i 0 h) ∙ over_miss (get_or l i 0) (drop (suc i) l) max fine
-    ∙ ap (λ (j : ℕ). any_over (drop j l) max) (sym (add-one i))
-
-pub over_ended : (l : List ℕ) (max i : ℕ) → any_over l max ≡ any_over (drop i l) max → i ≤ length l → length l ≤ i → false ≡ any_over l max
-over_ended l max i e most least =
-    sym (e ∙ ap (λ (j : ℕ). any_over (drop j l) max) (let z : i ≡ length l = omega arith in z) ∙ ap (λ (t : List ℕ). any_over t max) (drop-length l)
-    ∙ over_none max)
+  pub of_none : None ≡ choice l last → length l ≤ chosen l last
+  of_none e = by_case (ltb (chosen l last) (length l)) refl e
+    where
+      by_case : (t : Bool) → ltb (chosen l last) (length l) ≡ t → None ≡ cond t (Some (chosen l last)) None → length l ≤ chosen l last
+      by_case true h none = absurd (none-some _ none)
+      by_case false h none = ltb-false _ _ h
 
 -- Taken or not, test by test.
 module _ (l : List ℕ) (place room : ℕ) where

@@ -1,18 +1,12 @@
 -- A call part way: what the loop of `fill` keeps, and what its ends come to. Assumes nothing.
-use mathlib.Core.Path.{◌≡◌, refl, sym, ap, ◌∙◌}
-use mathlib.Core.Bool.{Bool, true, false}
-use mathlib.Core.List.{List, [], ◌∷◌, ◌++◌, append_assoc, append-nil}
-use Prim.Native.Nat.{ℕ, zero, suc, ◌+◌, ◌-◌, ◌<◌, ◌≤◌}
-use native.Mathlib.Omega.{arith}
-use native.Mathlib.Numerals.{add-one}
-use lib.ListN.{length, get_or, set, take, drop, length-set, take-append-drop}
-use lib.Seq.{take-suc-set, drop-set-lt, drop-drop, length-take-le}
-use lib.Dec.{ltb}
-use borrow.Author.Tests.{lt-ltb, le-ltb, ltb-true, ltb-false}
-use Rattle.places.specs.declared.Turned.{Turned}
-use Rattle.places.specs.Places.{next_place, first_of, chosen, one_off, Stretch, rests, turn_then, turns_of, taken}
+use Rattle.std.proofs.Common.{◌≡◌, refl, sym, ap, ◌∙◌, Bool, true, false, List, [], ◌∷◌, ◌++◌, append_assoc, append-nil, ℕ, zero, suc, ◌+◌, ◌-◌, ◌<◌}
+use Rattle.std.proofs.Common.{◌≤◌, arith, add-one, length, get_or, set, take, drop, length-set, take-append-drop, take-suc-set, drop-set-lt}
+use Rattle.std.proofs.Common.{drop-drop, length-take-le, ltb, lt-ltb, le-ltb, ltb-true, ltb-false, Some, None, Result, Ok, Err}
+use Rattle.places.specs.declared.Served.{Served}
+use Rattle.places.specs.declared.NotTaken.{NotTaken}
+use Rattle.places.specs.Places.{next_place, first_of, chosen, choice, one_off, Stretch, rests, turn_then, turns_of, taken}
 use Rattle.places.specs.Places.{Outcome, fills, as_lent, served, among_first, served_first}
-use Rattle.places.proofs.Laws.{turns_stop, turns_go, sub_suc, first_hit, first_miss, fine}
+use Rattle.places.proofs.Laws.{turns_stop, turns_go, sub_suc, first_hit, first_miss, of_some, of_none, fine}
 
 pub first_none : (l : List ℕ) (p : ℕ) → first_of l p 0 < length l → ⊥
 unfolding first_of
@@ -40,10 +34,9 @@ pub served_taken : (l : List ℕ) (s : ℕ) (list : List ℕ) → taken l s (len
 unfolding served
 served_taken l s list e = rw e
 
-module _ (l₀ : List ℕ) (s₀ : ℕ) (list₀ : List ℕ) (n : ℕ) where
+module _ (l₀ : List ℕ) (s₀ : ℕ) (list₀ : List ℕ) where
   pub record Mid (l list : List ℕ) (s i : ℕ) : Type 0 where
     pub accepted : taken l₀ s₀ (length list₀) ≡ true
-    pub count : n ≡ length l
     pub same : length l ≡ length l₀
     pub room : length list ≡ length list₀
     pub within : i ≤ length list
@@ -53,13 +46,12 @@ module _ (l₀ : List ℕ) (s₀ : ℕ) (list₀ : List ℕ) (n : ℕ) where
     pub places : (turns_of l₀ s₀ (length list₀)).places ≡ take i list ++ (turns_of l s (length list - i)).places
     pub kept : drop i list ≡ drop i list₀
 
-  abbrev pub Ended : Turned → List ℕ → List ℕ → Type 0
+  abbrev pub Ended : Result Served NotTaken → List ℕ → List ℕ → Type 0
   Ended r l list = (r ≡ (served l₀ s₀ list₀).answer) × ((l ≡ (served l₀ s₀ list₀).left) × (list ≡ (served l₀ s₀ list₀).list))
 
-pub mid_start : (l : List ℕ) (s : ℕ) (list : List ℕ) → taken l s (length list) ≡ true → Mid l s list (length l) l list s 0
+pub mid_start : (l : List ℕ) (s : ℕ) (list : List ℕ) → taken l s (length list) ≡ true → Mid l s list l list s 0
 mid_start l s list e = record {
   accepted = e;
-  count = refl;
   same = refl;
   room = refl;
   within = omega arith;
@@ -73,16 +65,15 @@ mid_start l s list e = record {
     all : length list ≡ length list - 0
     all = omega arith
 
-module _ {l₀ : List ℕ} {s₀ : ℕ} {list₀ : List ℕ} {n : ℕ} where
-  pub mid_step : (l list : List ℕ) (s i p : ℕ) → Mid l₀ s₀ list₀ n l list s i → i < length list → p ≡ chosen l s → p < n →
-      Mid l₀ s₀ list₀ n (set l p (get_or l p 0 - 1)) (set list i p) p (i + 1)
-  mid_step l list s i p m h e small = record {
+module _ {l₀ : List ℕ} {s₀ : ℕ} {list₀ : List ℕ} where
+  pub mid_step : (l list : List ℕ) (s i p : ℕ) → Mid l₀ s₀ list₀ l list s i → i < length list₀ → Some p ≡ choice l s →
+      Mid l₀ s₀ list₀ (set l p (get_or l p 0 - 1)) (set list i p) p (i + 1)
+  mid_step l list s i p m below found = record {
     accepted = m.accepted;
-    count = m.count ∙ sym (length-set l p _);
     same = length-set l p _ ∙ m.same;
     room = length-set list i p ∙ m.room;
     within = rw length-set (omega arith);
-    inside = rw length-set (rw m.count at small);
+    inside = rw length-set small;
     lefts = m.lefts ∙ ap (λ (r : Stretch). r.left) steps;
     lasts = m.lasts ∙ ap (λ (r : Stretch). r.last) steps;
     places = m.places ∙ ap (λ (r : Stretch). take i list ++ r.places) steps ∙ sym (append_assoc (take i list) (p ∷ []) _)
@@ -90,20 +81,29 @@ module _ {l₀ : List ℕ} {s₀ : ℕ} {list₀ : List ℕ} {n : ℕ} where
     kept = drop-set-lt (i + 1) list i p (omega arith) ∙ sym (drop-drop 1 i list) ∙ ap (drop 1) m.kept ∙ drop-drop 1 i list₀;
   }
     where
+      h : i < length list
+      h = omega (arith, m.room)
+
+      e : p ≡ chosen l s
+      e = (of_some l s p found).0
+
+      small : p < length l
+      small = (of_some l s p found).1
+
       steps : turns_of l s (length list - i) ≡ turn_then p (turns_of (one_off l p) p (length (set list i p) - (i + 1)))
       steps =
-          ap (turns_of l s) (sub_suc (length list) i h) ∙ turns_go l s (length list - (i + 1)) (rw e at (rw m.count at small)) ∙
+          ap (turns_of l s) (sub_suc (length list) i h) ∙ turns_go l s (length list - (i + 1)) (rw e at small) ∙
           ap (λ (x : ℕ). turn_then x (turns_of (one_off l x) x (length list - (i + 1)))) (sym e)
           ∙ ap (λ (k : ℕ). turn_then p (turns_of (one_off l p) p (k - (i + 1)))) (sym (length-set list i p))
 
       one_more : take i list ++ (p ∷ []) ≡ take (i + 1) (set list i p)
       one_more = sym (ap (λ (k : ℕ). take k (set list i p)) (add-one i) ∙ take-suc-set list i p h)
 
-  pub mid_stop : (l list : List ℕ) (s i : ℕ) → Mid l₀ s₀ list₀ n l list s i → turns_of l s (length list - i) ≡ rests l s →
-      Ended l₀ s₀ list₀ n (Turned.Served i s) l list
+  pub mid_stop : (l list : List ℕ) (s i : ℕ) → Mid l₀ s₀ list₀ l list s i → turns_of l s (length list - i) ≡ rests l s →
+      Ended l₀ s₀ list₀ (Ok (record { count = i; last = s })) l list
   mid_stop l list s i m e = (
-    ap (λ (k : ℕ). Turned.Served k s) (sym many)
-        ∙ ap (λ (t : ℕ). Turned.Served (length R.places) t) (sym (m.lasts ∙ ap (λ (r : Stretch). r.last) e))
+    ap (λ (k : ℕ). answered k s) (sym many)
+        ∙ ap (λ (t : ℕ). answered (length R.places) t) (sym (m.lasts ∙ ap (λ (r : Stretch). r.last) e))
         ∙ ap (λ (x : Outcome). x.answer) (sym good),
     (
       sym (m.lefts ∙ ap (λ (r : Stretch). r.left) e) ∙ ap (λ (x : Outcome). x.left) (sym good),
@@ -112,6 +112,9 @@ module _ {l₀ : List ℕ} {s₀ : ℕ} {list₀ : List ℕ} {n : ℕ} where
     ),
   )
     where
+      answered : ℕ → ℕ → Result Served NotTaken
+      answered k t = Ok (record { count = k; last = t })
+
       R : Stretch
       R = turns_of l₀ s₀ (length list₀)
 
@@ -125,37 +128,34 @@ module _ {l₀ : List ℕ} {s₀ : ℕ} {list₀ : List ℕ} {n : ℕ} where
       many = ap length are ∙ length-take-le i list m.within
 
   -- The list is full, or no walk has steps left.
-  pub mid_full : (l list : List ℕ) (s i : ℕ) → Mid l₀ s₀ list₀ n l list s i → length list ≤ i → Ended l₀ s₀ list₀ n (Turned.Served i s) l list
+  pub mid_full : (l list : List ℕ) (s i : ℕ) → Mid l₀ s₀ list₀ l list s i → length list₀ ≤ i →
+      Ended l₀ s₀ list₀ (Ok (record { count = length list₀; last = s })) l list
   unfolding turns_of
-  mid_full l list s i m h = mid_stop l list s i m (ap (turns_of l s) (let z : length list - i ≡ 0 = omega arith in z))
+  mid_full l list s i m h =
+      let full : i ≡ length list₀ = omega (arith, m.room, m.within) in
+      rw full at (mid_stop l list s i m (ap (turns_of l s) (let z : length list - i ≡ 0 = omega arith in z)))
 
-  pub mid_none : (l list : List ℕ) (s i p : ℕ) → Mid l₀ s₀ list₀ n l list s i → p ≡ chosen l s → n ≤ p →
-      Ended l₀ s₀ list₀ n (Turned.Served i s) l list
-  mid_none l list s i p m e h = mid_stop l list s i m (turns_stop l s (length list - i) (let w : length l ≤ p = rw m.count at h in rw e at w))
+  pub mid_none : (l list : List ℕ) (s i : ℕ) → Mid l₀ s₀ list₀ l list s i → None ≡ choice l s →
+      Ended l₀ s₀ list₀ (Ok (record { count = i; last = s })) l list
+  mid_none l list s i m e = mid_stop l list s i m (turns_stop l s (length list - i) (of_none l s e))
 
   -- A place that was chosen.
-  module _ (l list : List ℕ) (s i p : ℕ) (m : Mid l₀ s₀ list₀ n l list s i) (small : p < n) where
-    pub chosen_in : p < length l
-    chosen_in = rw m.count at small
-
+  module _ (l list : List ℕ) (s i p : ℕ) (m : Mid l₀ s₀ list₀ l list s i) (found : Some p ≡ choice l s) where
     pub chosen_few : p < 16
-    chosen_few = let few : length l₀ ≤ 16 = (fine l₀ s₀ (length list₀) m.accepted).few in omega (arith, m.count, m.same)
+    chosen_few = omega (arith, (of_some l s p found).1, (fine l₀ s₀ (length list₀) m.accepted).few, m.same)
 
-    pub chosen_left : p ≡ chosen l s → 1 ≤ get_or l p 0
-    chosen_left e = rw e (chosen_some l s (rw e at chosen_in))
-
-pub nearer : (list : List ℕ) (i p : ℕ) → i < length list → length (set list i p) - (i + 1) < length list - i
-nearer list i p h = rw length-set (omega arith)
+    pub chosen_left : 1 ≤ get_or l p 0
+    chosen_left = let h = of_some l s p found in rw h.0 (chosen_some l s (rw h.0 at h.1))
 
 -- ---- the three equations of a refused call, and of one among sixteen numbers
 
-abbrev pub Says : Outcome → Turned → List ℕ → List ℕ → Type 0
+abbrev pub Says : Outcome → Result Served NotTaken → List ℕ → List ℕ → Type 0
 Says o r left list = (r ≡ o.answer) × ((left ≡ o.left) × (list ≡ o.list))
 
 pub says_of : {o x : Outcome} → x ≡ o → Says o x.answer x.left x.list
 says_of {o} {x} e = (ap (λ (y : Outcome). y.answer) e, (ap (λ (y : Outcome). y.left) e, ap (λ (y : Outcome). y.list) e))
 
-pub says_refused : (l : List ℕ) (s : ℕ) (list : List ℕ) → taken l s (length list) ≡ false → Says (served l s list) Turned.Turns l list
+pub says_refused : (l : List ℕ) (s : ℕ) (list : List ℕ) → taken l s (length list) ≡ false → Says (served l s list) (Err (record {})) l list
 says_refused l s list e = says_of (sym (served_refused l s list e))
 
 module _ (l : List ℕ) (n s : ℕ) (list : List ℕ) where
@@ -167,10 +167,10 @@ module _ (l : List ℕ) (n s : ℕ) (list : List ℕ) where
   unfolding served_first
   first_short h = rw (le-ltb 16 n h)
 
-  pub says_long : 16 < n → Says (served_first l n s list) Turned.Turns l list
+  pub says_long : 16 < n → Says (served_first l n s list) (Err (record {})) l list
   says_long h = says_of (sym (first_long h))
 
-  pub says_short : n ≤ 16 → (r : Turned) (front list₁ : List ℕ) → Says (served (take n l) s list) r front list₁ →
+  pub says_short : n ≤ 16 → (r : Result Served NotTaken) (front list₁ : List ℕ) → Says (served (take n l) s list) r front list₁ →
       Says (served_first l n s list) r (front ++ drop n l) list₁
   says_short h r front list₁ e =
       let w = says_of (sym (first_short h)) in

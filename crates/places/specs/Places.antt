@@ -1,7 +1,9 @@
 -- Turns among walks (T-11): what a call does to the steps left, to the place served last and to the lent list.
 -- The steps left are a list of numbers, one a walk; places are counted from 0.
-use Rattle.std.specs.Prelude.{Bool, false, cond, ◌||◌, List, [], ◌∷◌, ◌++◌, ℕ, zero, suc, ◌+◌, ◌-◌, length, get_or, set, take, drop, ltb, leb}
-use Rattle.places.specs.declared.Turned.{Turned}
+use Rattle.std.specs.Prelude.{Bool, false, cond, List, [], ◌∷◌, ◌++◌, ℕ, zero, suc, ◌+◌, ◌-◌, length, get_or, set, take, drop, ltb, leb, Option, Some, None, Result, Ok, Err}
+use Rattle.std.specs.List.{list_any}
+use Rattle.places.specs.declared.Served.{Served}
+use Rattle.places.specs.declared.NotTaken.{NotTaken}
 
 -- ---- whose turn it is
 
@@ -18,6 +20,10 @@ first_of left p (suc k) =
 -- Once round the table, and so the place served last comes last.
 unfoldable pub chosen : List ℕ → ℕ → ℕ
 chosen left last = first_of left last (length left)
+
+-- That place, if there is one.
+abbrev pub choice : List ℕ → ℕ → Option ℕ
+choice left last = cond (ltb (chosen left last) (length left)) (Some (chosen left last)) None
 
 -- ---- at most m turns
 
@@ -47,8 +53,7 @@ turns_of left last (suc m) =
 -- ---- the call
 
 unfoldable pub any_over : List ℕ → ℕ → Bool
-any_over [] most = false
-any_over (x ∷ l) most = ltb most x || any_over l most
+any_over list most = list_any (λ x. ltb most x) list
 
 -- What 29 leaves: a table that is neither empty nor longer than 16, a place in it, no steps left above 3,650, a list of at most 65,535.
 unfoldable pub taken : List ℕ → ℕ → ℕ → Bool
@@ -58,17 +63,17 @@ taken left place room =
 
 -- What a call answers, and the steps left and the list that it leaves.
 pub record Outcome : Type 0 where
-  pub answer : Turned
+  pub answer : Result Served NotTaken
   pub left : List ℕ
   pub list : List ℕ
 
 abbrev pub as_lent : List ℕ → List ℕ → Outcome
-as_lent left list = record { answer = Turned.Turns; left = left; list = list }
+as_lent left list = record { answer = Err (record {}); left = left; list = list }
 
 abbrev pub fills : List ℕ → Stretch → Outcome
 fills list r =
     record {
-      answer = Turned.Served (length r.places) r.last;
+      answer = Ok (record { count = length r.places; last = r.last });
       left = r.left;
       list = r.places ++ drop (length r.places) list;
     }
@@ -79,18 +84,18 @@ served left place list = cond (taken left place (length list)) (fills list (turn
 -- ---- the answer's figures
 
 -- The number of an answer, 0 if accepted, and how many places were written: none is told if refused.
-abbrev pub turned_number : Turned → ℕ
-turned_number (Turned.Served count last) = 0
-turned_number Turned.Turns = 29
+abbrev pub turned_number : Result Served NotTaken → ℕ
+turned_number (Ok turns) = 0
+turned_number (Err refused) = 29
 
-abbrev pub turned_values : Turned → List ℕ
-turned_values (Turned.Served count last) = count ∷ []
-turned_values Turned.Turns = []
+abbrev pub turned_values : Result Served NotTaken → List ℕ
+turned_values (Ok turns) = turns.count ∷ []
+turned_values (Err refused) = []
 
 -- The place served last, after a call at a place: a refusal hands it back.
-abbrev pub place_after : ℕ → Turned → ℕ
-place_after place (Turned.Served count last) = last
-place_after place Turned.Turns = place
+abbrev pub place_after : ℕ → Result Served NotTaken → ℕ
+place_after place (Ok turns) = turns.last
+place_after place (Err refused) = place
 
 -- ---- among sixteen numbers
 
@@ -104,6 +109,6 @@ served_first left n place list = cond (ltb 16 n) (as_lent left list) (among_firs
 abbrev pub shown_of : ℕ → ℕ
 shown_of n = cond (ltb 16 n) 16 n
 
-abbrev pub stored_of : Turned → ℕ → ℕ
-stored_of (Turned.Served count last) n = n
-stored_of Turned.Turns n = 0
+abbrev pub stored_of : Result Served NotTaken → ℕ → ℕ
+stored_of (Ok turns) n = n
+stored_of (Err refused) n = 0

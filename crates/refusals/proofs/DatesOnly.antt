@@ -1,10 +1,7 @@
 -- Fractions of 0 change no refusal.
-use Prim.Native.Nat.{ℕ, ◌<◌}
-use mathlib.Core.Path.{◌≡◌, refl, ap, ◌∙◌}
-use mathlib.Core.Bool.{Bool, false, or-false}
-use mathlib.Core.List.{List}
-use native.Mathlib.Omega.{arith}
-use lib.ListN.{length, get_or, replicate, length-replicate, get_or-replicate}
+use Rattle.std.proofs.Common.{ℕ, ◌<◌, ◌≡◌, refl, ap, ◌∙◌, Bool, false, List, arith, length, get_or, replicate}
+use mathlib.Core.Bool.{or-false}
+use lib.ListN.{length-replicate, get_or-replicate}
 use Rattle.sheet.specs.Brought.{Brought}
 use Rattle.refusals.specs.Tests.{differs, lists_bad, elapsed_bad, Test, first, sheet_tests}
 use Rattle.refusals.specs.DatesOnly.{dates_only_lists_bad, dates_only_tests, RefusalsByDates}

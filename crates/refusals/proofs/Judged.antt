@@ -1,11 +1,7 @@
 -- A test, and the proposition that holds just where the test is false.
-use Prim.Native.Nat.{ℕ, ◌≤◌, ◌<◌}
-use mathlib.Core.Path.{◌≡◌, refl, sym, ap}
-use mathlib.Core.Bool.{Bool, true, false, not, ◌||◌}
-use mathlib.Core.Logic.{◌↔◌, ◌⊎◌, inl, inr, ⊎_elim}
-use native.Mathlib.Omega.{arith}
-use lib.Dec.{ltb, leb, eqb}
-use borrow.Author.Tests.{ltb-false, leb-false, eqb-true, eqb-false, not-false, le-ltb, lt-leb, eq-eqb, ne_eqb}
+use Rattle.std.proofs.Common.{ℕ, ◌≤◌, ◌<◌, ◌≡◌, refl, sym, ap, Bool, true, false, not, ◌||◌, ◌↔◌, ◌⊎◌, inl, inr, ⊎_elim, arith, ltb, leb, eqb}
+use Rattle.std.proofs.Common.{ltb-false, leb-false, eqb-true, le-ltb, eq-eqb, ne_eqb}
+use borrow.Author.Tests.{eqb-false, not-false, lt-leb}
 use Rattle.rows.specs.Tables.{any}
 use Rattle.rows.proofs.Search.{or_left, or_right, neither, any_missed, any_none}
 use Rattle.lists.specs.Outside.{outside}

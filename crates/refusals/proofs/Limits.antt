@@ -1,23 +1,19 @@
 -- A sheet passes checks 1 to 8, 21 and 25 just where it is within 'Sheet and units'.
-use mathlib.Core.Path.{◌≡◌}
-use mathlib.Core.Bool.{Bool, false}
-use mathlib.Core.List.{List, [], ◌∷◌}
+use Rattle.std.proofs.Common.{◌≡◌, Bool, false, List, [], ◌∷◌, ◌↔◌, Ok}
 use mathlib.Core.Logic.Iff
-use mathlib.Core.Logic.{◌↔◌}
 use Rattle.sheet.specs.Brought.{Brought}
 use Rattle.sheet.specs.Limits.{Limits}
 use Rattle.refusals.specs.declared.Refusal.{Refusal}
-use Rattle.refusals.specs.declared.Found.TheVariants.{Fine}
 use Rattle.refusals.specs.Tests.{Test, first, sheet_tests}
 use Rattle.refusals.proofs.FirstTest.{first_none, first_fine}
 use Rattle.refusals.proofs.Meanings.{pool_fine, lengths_fine, recovery_fine, attachments_fine, starts_fine, hazards_fine, discounts_fine, accruals_fine, elapsed_fine, coupons_fine}
 
 -- One test more, before tests that find nothing just where L holds.
-pub tests_fine : {b : Bool} {K L : Type 0} (f : Refusal) (l : List Test) → (b ≡ false) ↔ K → (first l ≡ Fine) ↔ L → (first ((b, f) ∷ l) ≡ Fine) ↔ (K × L)
+pub tests_fine : {b : Bool} {K L : Type 0} (f : Refusal) (l : List Test) → (b ≡ false) ↔ K → (first l ≡ Ok tt) ↔ L → (first ((b, f) ∷ l) ≡ Ok tt) ↔ (K × L)
 tests_fine {b} f l k m =
     Iff.trans (first_fine b f l) (λ e. (k.0 e.0, m.0 e.1), λ p. (k.1 p.0, m.1 p.1))
 
-pub limits : (x : Brought) (lent : Bool) → (first (sheet_tests x lent []) ≡ Fine) ↔ (Limits x × (lent ≡ false))
+pub limits : (x : Brought) (lent : Bool) → (first (sheet_tests x lent []) ≡ Ok tt) ↔ (Limits x × (lent ≡ false))
 unfolding sheet_tests
 limits x lent =
     Iff.trans

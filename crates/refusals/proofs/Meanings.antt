@@ -1,11 +1,6 @@
 -- Each of the tests of a sheet is false just where the sheet keeps to its limit.
-use Prim.Native.Nat.{suc, pred, ◌+◌, ◌*◌}
-use mathlib.Core.Path.{◌≡◌}
-use mathlib.Core.Bool.{Bool, false, ◌||◌}
+use Rattle.std.proofs.Common.{suc, pred, ◌+◌, ◌*◌, ◌≡◌, Bool, false, ◌||◌, ◌↔◌, arith, length, get_or, drop}
 use mathlib.Core.Logic.Iff
-use mathlib.Core.Logic.{◌↔◌}
-use native.Mathlib.Omega.{arith}
-use lib.ListN.{length, get_or, drop}
 use Rattle.cash.specs.Units.{B}
 use Rattle.sheet.specs.Terms.{Terms, sum_of}
 use Rattle.sheet.specs.Dates.{next_accrual}

@@ -1,12 +1,5 @@
 -- One period changes no refusal.
-use Prim.Native.Nat.{ℕ, ◌*◌}
-use mathlib.Core.Path.{◌≡◌, refl, sym, ap, ◌∙◌}
-use mathlib.Core.Bool.{Bool, true, false, ◌||◌}
-use mathlib.Core.List.{List, [], ◌∷◌}
-use native.Mathlib.Nat.{one-mul}
-use lib.ListN.{length, get_or}
-use lib.Dec.{ltb}
-use borrow.Author.Tests.{le-ltb}
+use Rattle.std.proofs.Common.{ℕ, ◌*◌, ◌≡◌, refl, sym, ap, ◌∙◌, Bool, true, false, ◌||◌, List, [], ◌∷◌, one-mul, length, get_or, ltb, le-ltb}
 use Rattle.cash.specs.Units.{B}
 use Rattle.sheet.specs.Brought.{Brought}
 use Rattle.rows.specs.Tables.{any}

@@ -1,5 +1,5 @@
 -- The same as tests, in document 01's order, each with its refusal: what the code runs.
-use Rattle.std.specs.Prelude.{ℕ, suc, pred, ◌+◌, ◌*◌, Bool, not, cond, ◌||◌, List, [], ◌∷◌, length, get_or, drop, leb, ltb, eqb}
+use Rattle.std.specs.Prelude.{ℕ, suc, pred, ◌+◌, ◌*◌, Bool, not, cond, ◌||◌, List, [], ◌∷◌, length, get_or, drop, leb, ltb, eqb, Result, Ok, Err, ⊤}
 use Rattle.cash.specs.Units.{B}
 use Rattle.sheet.specs.Terms.{Terms, sum_of}
 use Rattle.sheet.specs.Dates.{next_accrual}
@@ -9,8 +9,6 @@ use Rattle.sheet.specs.Brought.{Brought}
 use Rattle.refusals.specs.declared.Refusal.{Refusal}
 use Rattle.refusals.specs.declared.Refusal.TheVariants.{Pool, Length, Recovery, Attachments, Hazard, Discount, Accrual, Coupon}
 use Rattle.refusals.specs.declared.Refusal.TheVariants.{Elapsed, Periods}
-use Rattle.refusals.specs.declared.Found.{Found}
-use Rattle.refusals.specs.declared.Found.TheVariants.{Fine, Refused}
 
 abbrev pub differs : ℕ → ℕ → Bool
 differs a b = not (eqb a b)
@@ -64,9 +62,9 @@ abbrev pub Test : Type 0
 Test = Bool × Refusal
 
 -- The first refusal met, in the order of the list.
-unfoldable pub first : List Test → Found
-first [] = Fine
-first (t ∷ l) = cond t.0 (Refused t.1) (first l)
+unfoldable pub first : List Test → Result ⊤ Refusal
+first [] = Ok tt
+first (t ∷ l) = cond t.0 (Err t.1) (first l)
 
 -- Checks 3 and 4, what the tranches rest on; 25, 5 to 7 and 21, what the tree rests on; all of these and 8; and then more.
 abbrev pub tranche_tests : Terms → List Test → List Test

@@ -1,4 +1,4 @@
-// Every refusal of a call, with its number; what a list of checks finds.
+// Every refusal of a call, with its number. A list of checks finds the first of them, or nothing: `Result<(), Refusal>`.
 
 #![tactic(auto)]
 
@@ -6,7 +6,7 @@ ghost use Rattle.std.specs.Prelude.{◌≡◌};
 ghost use Rattle.refusals.specs.Refusals.{refusal_number};
 
 // Every refusal of a call, with the number and word of document 01, and of T-01 and T-06 for the last two.
-#[derive(Clone, Copy)]
+#[derive(Clone, Copy, Debug, PartialEq, Eq)]
 pub enum Refusal {
     // 1, pool
     Pool,
@@ -46,35 +46,30 @@ pub enum Refusal {
     Periods,
 }
 
-// What a list of checks finds: the first refusal, or nothing.
-#[derive(Clone, Copy)]
-pub enum Found {
-    Fine,
-    Refused(Refusal),
-}
-
 // A refusal's number in document 01.
-pub fn refusal_number(refusal: Refusal) -> u8
-    ensures { result ≡ refusal_number refusal }
-{
-    match refusal {
-        Refusal::Pool => 1,
-        Refusal::Length => 2,
-        Refusal::Recovery => 3,
-        Refusal::Attachments => 4,
-        Refusal::Hazard => 5,
-        Refusal::Discount => 6,
-        Refusal::Accrual => 7,
-        Refusal::Coupon => 8,
-        Refusal::Withdrawn => 9,
-        Refusal::Unissued => 10,
-        Refusal::NoWalk => 11,
-        Refusal::OverCeiling => 12,
-        Refusal::OutOfSteps => 13,
-        Refusal::OffTree => 14,
-        Refusal::FlatHedge => 15,
-        Refusal::OffScale => 16,
-        Refusal::Elapsed => 21,
-        Refusal::Periods => 25,
+impl From<Refusal> for u8 {
+    ghost from_gives = { λ refusal number. number ≡ refusal_number refusal };
+
+    fn from(refusal: Refusal) -> u8 {
+        match refusal {
+            Refusal::Pool => 1,
+            Refusal::Length => 2,
+            Refusal::Recovery => 3,
+            Refusal::Attachments => 4,
+            Refusal::Hazard => 5,
+            Refusal::Discount => 6,
+            Refusal::Accrual => 7,
+            Refusal::Coupon => 8,
+            Refusal::Withdrawn => 9,
+            Refusal::Unissued => 10,
+            Refusal::NoWalk => 11,
+            Refusal::OverCeiling => 12,
+            Refusal::OutOfSteps => 13,
+            Refusal::OffTree => 14,
+            Refusal::FlatHedge => 15,
+            Refusal::OffScale => 16,
+            Refusal::Elapsed => 21,
+            Refusal::Periods => 25,
+        }
     }
 }

@@ -1,19 +1,11 @@
 -- What a cut write may leave: the bytes, what they say, and every other byte as it was.
-use mathlib.Core.Path.{◌≡◌, refl, sym, ◌∙◌, ap, subst}
-use mathlib.Core.Logic.{◌≢◌}
-use mathlib.Core.Bool.{Bool, true, false, not, ◌&&◌, false≢true, cond}
-use mathlib.Core.List.{List}
-use Prim.Native.Nat.{ℕ, zero, suc, ◌<◌}
-use native.Mathlib.Nat.{not-suc-le-zero}
+use Rattle.std.proofs.Common.{◌≡◌, refl, sym, ◌∙◌, ap, subst, ◌≢◌, Bool, true, false, not, ◌&&◌, cond, List, ℕ, zero, suc, ◌<◌, not-suc-le-zero}
+use Rattle.std.proofs.Common.{arith, eqb-true, T, eqb, lit<, length, get_or, length-set, get_or-set_same, get_or-set_other}
+use mathlib.Core.Bool.{false≢true}
 use native.Mathlib.Decide.{ℕ_discrete, dec_lt}
-use native.Mathlib.Omega.{arith}
-use borrow.Author.Tests.{eqb-true}
-use lib.Dec.{T, eqb, lit<}
-use lib.ListN.{length, get_or, length-set, get_or-eq_default}
-use lib.Seq.{get_or-set_same, get_or-set_other}
+use lib.ListN.{get_or-eq_default}
 use Rattle.register.specs.declared.answers.Status.{Status}
-use Rattle.register.specs.declared.answers.WriteAnswer.{WriteAnswer}
-use Rattle.register.specs.Register.{status_of, Write, issue, withdraw, byte_of, answer_of, is_accepted}
+use Rattle.register.specs.Register.{status_of, WriteAnswer, Write, issue, withdraw, byte_of, answer_of, is_accepted}
 use Rattle.register.specs.Cut.{may_be_left, cut_bytes, is_one_of, CutsFind}
 use Rattle.register.specs.Events.{CanCut, CutLeaves, CutBounds}
 use Rattle.register.proofs.Rules.{of_length, of_withdrawn, of_unissued, of_live, Says, wrong, withdrawn, unissued, live, says}

@@ -1,17 +1,14 @@
 -- Once a withdraw of x was accepted and returned, x is withdrawn at every later place of the list, wherever the power fails.
-use mathlib.Core.Path.{◌≡◌, refl, sym, ◌∙◌, ap, subst}
-use mathlib.Core.Bool.{Bool, true, false, ◌||◌, false≢true, cond}
-use mathlib.Core.List.{List, [], ◌∷◌}
-use Prim.Native.Nat.{ℕ, zero, suc}
-use borrow.Author.Tests.{eqb-true}
-use lib.Dec.{eqb}
-use lib.ListN.{length, get_or, set, take, length-set, length-replicate}
-use lib.Seq.{get_or-set_other}
+use Rattle.std.proofs.Common.{◌≡◌, refl, sym, ◌∙◌, ap, subst, Bool, true, false, ◌||◌, cond, List, [], ◌∷◌, ℕ, zero, suc, eqb-true, eqb, length}
+use Rattle.std.proofs.Common.{get_or, set, take, length-set, get_or-set_other}
+use mathlib.Core.Bool.{false≢true}
+use lib.ListN.{length-replicate}
 use Rattle.register.specs.declared.answers.Status.TheVariants as Status
-use Rattle.register.specs.declared.answers.WriteAnswer.{WriteAnswer}
+use Rattle.register.specs.declared.answers.WriteRefusal.{WriteRefusal}
+use Rattle.std.specs.declared.result.Result.TheVariants.{Err}
 use Rattle.register.specs.Register.{number_of, Write, issue, withdraw, byte_of, by_status, answer_of, is_accepted}
 use Rattle.register.specs.Events.{RegisterEvent, returned, cut, reads, blank_register, after_event, after_events, CanBe, AllCanBe, answer_given, withdraws, withdrawn_in, Gone, WithdrawalLasts}
-use Rattle.register.proofs.Masks.{both}
+use Rattle.std.proofs.lemmas.Bool.{and_parts}
 use Rattle.register.proofs.Rules.{left, of_status}
 
 -- All that the rest of Gone follows from.
@@ -19,11 +16,11 @@ pub record Zero (register : List ℕ) (x : ℕ) : Type 0 where
   pub size : length register ≡ 256
   pub byte : get_or register x 0 ≡ 0x00
 
-by_withdrawn : (w : Write) → by_status w Status.Withdrawn ≡ WriteAnswer.Withdrawn
+by_withdrawn : (w : Write) → by_status w Status.Withdrawn ≡ Err WriteRefusal.Withdrawn
 by_withdrawn issue = refl
 by_withdrawn withdraw = refl
 
-refused : {register : List ℕ} {x : ℕ} → Zero register x → (w : Write) → answer_of w register x ≡ WriteAnswer.Withdrawn
+refused : {register : List ℕ} {x : ℕ} → Zero register x → (w : Write) → answer_of w register x ≡ Err WriteRefusal.Withdrawn
 refused {register} {x} z w = of_status w register x z.size (rw z.byte) ∙ by_withdrawn w
 
 never_accepted : {register : List ℕ} {x : ℕ} → Zero register x → (w : Write) → is_accepted (answer_of w register x) ≡ true → ⊥
@@ -74,7 +71,7 @@ size_after register (returned w y) = go (is_accepted (answer_of w register y))
 size_after register (cut w y found) = length-set register y found
 size_after register reads = refl
 
-set_zero : (register : List ℕ) (x : ℕ) → get_or (set register x 0) x 0 ≡ 0
+pub set_zero : (register : List ℕ) (x : ℕ) → get_or (set register x 0) x 0 ≡ 0
 set_zero [] x = refl
 set_zero (a ∷ register) zero = refl
 set_zero (a ∷ register) (suc x) = set_zero register x
@@ -83,7 +80,7 @@ set_zero (a ∷ register) (suc x) = set_zero register x
 pub starts : (register : List ℕ) → length register ≡ 256 → (e : RegisterEvent) (x : ℕ) → withdraws e (answer_given register e) x ≡ true → Zero (after_event register e) x
 starts register s (returned issue y) x t = absurd (false≢true t)
 starts register s (returned withdraw y) x t =
-    let p = both (eqb y x) (is_accepted (answer_of withdraw register y)) t in
+    let p = and_parts (eqb y x) (is_accepted (answer_of withdraw register y)) t in
     subst (λ (t : Bool). Zero (cond t (set register y 0x00) register) x) (sym p.1)
     (record { size = length-set register y 0x00 ∙ s; byte = subst (λ (k : ℕ). get_or (set register y 0x00) k 0 ≡ 0x00) (eqb-true y x p.0) (set_zero register y) })
 starts register s (cut w y found) x t = absurd (false≢true t)

@@ -1,11 +1,5 @@
 -- The rules of issue and withdraw rule out calls that look right: each breaks a rule at a number of a register that is computed here.
-use mathlib.Core.Bool.{cond}
-use mathlib.Core.Path.{◌≡◌, refl, ap}
-use mathlib.Core.List.{List, []}
-use Prim.Native.Nat.{ℕ}
-use native.Mathlib.Omega.{arith}
-use lib.Dec.{eqb}
-use lib.ListN.{get_or, set}
+use Rattle.std.proofs.Common.{cond, ◌≡◌, refl, ap, List, [], ℕ, arith, eqb, get_or, set}
 use Rattle.register.specs.Register.{status_in, number_of, withdraw, by_status, issue_answer, issue_leaves, withdraw_answer, withdraw_leaves}
 use Rattle.register.specs.Rules.{Unissued, Live, Withdrawn, IssueEffect, WithdrawEffect}
 use Rattle.register.specs.Events.{blank_register}

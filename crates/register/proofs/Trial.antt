@@ -1,13 +1,7 @@
 -- Lists of events, computed: the promise is of lists that there are, and does not call a number withdrawn too soon.
-use mathlib.Core.Path.{◌≡◌, refl}
-use mathlib.Core.Bool.{true, false}
-use mathlib.Core.List.{List, [], ◌∷◌}
+use Rattle.std.proofs.Common.{◌≡◌, refl, true, false, List, [], ◌∷◌, ℕ, lit<, take}
 use mathlib.Core.Option.{Option, none, some}
-use Prim.Native.Nat.{ℕ}
-use lib.Dec.{lit<}
-use lib.ListN.{take}
-use Rattle.register.specs.declared.answers.WriteAnswer.{WriteAnswer}
-use Rattle.register.specs.Register.{number_of, issue, withdraw}
+use Rattle.register.specs.Register.{WriteAnswer, number_of, issue, withdraw}
 use Rattle.register.specs.Events.{RegisterEvent, returned, cut, reads, blank_register, after_event, after_events, CanCut, AllCanBe, answer_given, withdrawn_in, Gone}
 use Rattle.register.proofs.Forever.{blank_forever}
 

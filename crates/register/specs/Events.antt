@@ -3,8 +3,7 @@
 use Rattle.std.specs.Prelude.{◌≡◌, ◌≢◌, Bool, true, false, ◌&&◌, ◌||◌, List, [], ◌∷◌, ℕ, ◌<◌, eqb, length, get_or, set, take, replicate}
 use Rattle.std.proofs.Math.Option.{Option, none, some}
 use Rattle.register.specs.declared.answers.Status.TheVariants as Status
-use Rattle.register.specs.declared.answers.WriteAnswer.{WriteAnswer}
-use Rattle.register.specs.Register.{status_in, number_of, Write, issue, withdraw, byte_of, answer_of, is_accepted, leaves_of}
+use Rattle.register.specs.Register.{status_in, WriteAnswer, number_of, Write, issue, withdraw, byte_of, answer_of, is_accepted, leaves_of}
 use Rattle.register.specs.Cut.{may_be_left, is_one_of, cut_bytes}
 
 -- An issue or a withdraw of a number that returned, accepted or refused; one in whose write the power failed, with the byte then found;

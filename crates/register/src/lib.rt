@@ -5,10 +5,10 @@
 pub mod answers;
 
 ghost use Rattle.std.specs.Prelude.{◌≡◌};
-ghost use Rattle.register.specs.Register.{status_of, status_in, number_of};
+ghost use Rattle.register.specs.Register.{status_of, status_in};
 ghost use Rattle.register.specs.Cut.{may_be_left};
 
-pub use answers::{Status, WriteAnswer};
+pub use answers::{Status, WriteRefusal};
 
 // The register's length; the byte of an unissued and of a live number; the byte that withdraw writes.
 pub const SIZE: usize = 256;
@@ -19,30 +19,15 @@ pub const LIVE: u8 = 0xA5;
 
 pub const CLEARED: u8 = 0x00;
 
-// The number of an answer in document 01; an accepted call has 0.
-pub fn number_of(answer: WriteAnswer) -> u8
-    ensures { result ≡ number_of answer }
-{
-    match answer {
-        WriteAnswer::Accepted => 0,
-        WriteAnswer::Length => 2,
-        WriteAnswer::Withdrawn => 9,
-        WriteAnswer::Unissued => 10,
-        WriteAnswer::Live => 17,
-    }
-}
-
 // What a register byte says.
 fn status_of(byte: u8) -> Status
     ensures { result ≡ status_of byte }
 {
-    if byte == UNISSUED {
-        return Status::Unissued;
+    match byte {
+        UNISSUED => Status::Unissued,
+        LIVE => Status::Live,
+        _ => Status::Withdrawn,
     }
-    if byte != LIVE {
-        return Status::Withdrawn;
-    }
-    Status::Live
 }
 
 // What the register says of a number: the one place that reads it.
@@ -50,12 +35,8 @@ fn status_of(byte: u8) -> Status
 pub fn status(register: &[u8], number: u8) -> Status
     ensures { result ≡ status_in register.now number }
 {
-    let at = number as usize;
-    if at < register.len() {
-        status_of(register[at])
-    } else {
-        Status::Withdrawn
-    }
+    let byte = register.get(number as usize).copied();
+    byte.map_or(Status::Withdrawn, status_of)
 }
 
 // Whether a write of `new` over `old` that power cuts may leave `found`: no bit is set, and none that `new` has is cleared.

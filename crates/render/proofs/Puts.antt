@@ -1,14 +1,6 @@
 -- What was written, with how long it can be.
-use Prim.Native.Nat.{ℕ, ◌+◌, ◌^◌, ◌≤◌, ◌<◌}
-use mathlib.Core.Path.{◌≡◌, sym, ap, ◌∙◌}
-use mathlib.Core.List.{List, [], ◌++◌, append-nil}
-use native.Mathlib.Omega.{arith}
-use lib.Dec.{lit≤, lit<}
-use lib.IntN.{ℤ, pos}
-use lib.ListN.{length}
+use Rattle.std.proofs.Common.{ℕ, ◌+◌, ◌^◌, ◌≤◌, ◌<◌, ◌≡◌, sym, ap, ◌∙◌, List, [], ◌++◌, append-nil, arith, lit≤, lit<, ℤ, pos, length, w64, SFits}
 use lib.Signed.{nat_abs-le}
-use mir.Syntax.{w64}
-use mir.Val.{SFits}
 use Rattle.lines.specs.Text.{decimal, field, Wrote}
 use Rattle.lines.proofs.Laws.{wrote_text, wrote_both, wrote_long, length_decimal, length_field_pos, length_field}
 use Rattle.hedges.proofs.Negated.{read, read_is}

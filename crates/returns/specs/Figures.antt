@@ -1,8 +1,8 @@
 -- The values of an answer, each 0 where the answer has none of its kind.
-use Rattle.std.specs.Prelude.{ℕ, get_or, ℤ, pos}
-use Rattle.figures.specs.declared.Answer.{Answer}
-use Rattle.figures.specs.declared.Answer.TheVariants.{Refused, Done, Position, Worth, Ratio}
-use Rattle.places.specs.declared.Turned.{Turned}
+use Rattle.std.specs.Prelude.{ℕ, get_or, ℤ, pos, Result}
+use Rattle.figures.specs.Answer.{Answer, Refused, Done, Position, Worth, Ratio}
+use Rattle.places.specs.declared.Served.{Served}
+use Rattle.places.specs.declared.NotTaken.{NotTaken}
 use Rattle.places.specs.Places.{turned_number, turned_values, place_after}
 use Rattle.returns.specs.declared.Allotted.{Allotted}
 
@@ -42,6 +42,6 @@ ratio_in (Worth d a w) = pos 0
 ratio_in (Ratio z) = z
 
 -- Those of an answer to a call for turns at a place.
-abbrev pub allotted_by : Turned → ℕ → Allotted
+abbrev pub allotted_by : Result Served NotTaken → ℕ → Allotted
 allotted_by answer place =
     record { number = turned_number answer; count = get_or (turned_values answer) 0 0; place = place_after place answer }

@@ -3,11 +3,13 @@
 #![tactic(auto)]
 
 ghost use Rattle.std.specs.Prelude.{◌≡◌};
+ghost use Rattle.figures.specs.Answer.{Done, answer_of, done_answer, position_answer, worth_answer, ratio_answer};
 ghost use Rattle.walk.specs.Answers.{said_of};
 ghost use Rattle.returns.specs.Figures.{position_in, default_in, premium_in, net_in, ratio_in, allotted_by};
 
-use places::Turned;
-use walk::{Answer, Walk};
+use places::{NotTaken, Served};
+use refusals::Refusal;
+use walk::{Reply, Walk, Worth};
 
 // What open answers.
 #[repr(C)]
@@ -72,97 +74,87 @@ pub struct Allotted {
 }
 
 // 0, or the number of a refusal.
-pub fn number_in(answer: Answer) -> u8
-    ensures { result ≡ (said_of answer).number }
+pub fn number_in<T>(answer: &Result<T, Refusal>) -> u8
+    ensures { result ≡ (said_of (answer_of (λ _. Done) answer.now)).number }
 {
     match answer {
-        Answer::Refused(refusal) => refusals::refusal_number(refusal),
-        Answer::Done => 0,
-        Answer::Position(_) => 0,
-        Answer::Worth(_, _, _) => 0,
-        Answer::Ratio(_) => 0,
+        Ok(_) => 0,
+        Err(refusal) => (*refusal).into(),
     }
 }
 
-// The position of an answer, or 0.
-pub fn position_in(answer: Answer) -> usize
-    ensures { result ≡ position_in answer }
-{
-    match answer {
-        Answer::Refused(_) => 0,
-        Answer::Done => 0,
-        Answer::Position(position) => position,
-        Answer::Worth(_, _, _) => 0,
-        Answer::Ratio(_) => 0,
+impl From<Reply<()>> for Opened {
+    ghost from_gives = { λ reply returns. (returns.number ≡ (said_of (done_answer reply.answer)).number) × (returns.walk ≡ reply.walk) };
+
+    fn from(reply: Reply<()>) -> Opened {
+        Opened {
+            number: number_in(&reply.answer),
+            walk: reply.walk,
+        }
     }
 }
 
-// D of an answer, or 0.
-pub fn default_in(answer: Answer) -> u64
-    ensures { result ≡ default_in answer }
-{
-    match answer {
-        Answer::Refused(_) => 0,
-        Answer::Done => 0,
-        Answer::Position(_) => 0,
-        Answer::Worth(default, _, _) => default,
-        Answer::Ratio(_) => 0,
+impl From<Reply<usize>> for Moved {
+    ghost from_gives = { λ reply returns. let answer = position_answer reply.answer in
+        (returns.number ≡ (said_of answer).number) × (returns.position ≡ position_in answer) × (returns.walk ≡ reply.walk) };
+
+    fn from(reply: Reply<usize>) -> Moved {
+        Moved {
+            number: number_in(&reply.answer),
+            position: reply.answer.unwrap_or(0),
+            walk: reply.walk,
+        }
     }
 }
 
-// A of an answer, or 0.
-pub fn premium_in(answer: Answer) -> u64
-    ensures { result ≡ premium_in answer }
-{
-    match answer {
-        Answer::Refused(_) => 0,
-        Answer::Done => 0,
-        Answer::Position(_) => 0,
-        Answer::Worth(_, premium, _) => premium,
-        Answer::Ratio(_) => 0,
+impl From<Reply<Worth>> for Valued {
+    ghost from_gives = { λ reply returns. let answer = worth_answer reply.answer in
+        (returns.number ≡ (said_of answer).number) × (returns.default ≡ default_in answer)
+        × (returns.premium ≡ premium_in answer) × (returns.net ≡ net_in answer) × (returns.walk ≡ reply.walk) };
+
+    fn from(reply: Reply<Worth>) -> Valued {
+        let worth = reply.answer.unwrap_or(Worth {
+            default: 0,
+            premium: 0,
+            net: 0,
+        });
+        Valued {
+            number: number_in(&reply.answer),
+            default: worth.default,
+            premium: worth.premium,
+            net: worth.net,
+            walk: reply.walk,
+        }
     }
 }
 
-// W of an answer, or 0.
-pub fn net_in(answer: Answer) -> i64
-    ensures { result ≡ net_in answer }
-{
-    match answer {
-        Answer::Refused(_) => 0,
-        Answer::Done => 0,
-        Answer::Position(_) => 0,
-        Answer::Worth(_, _, net) => net,
-        Answer::Ratio(_) => 0,
-    }
-}
+impl From<Reply<i64>> for Hedged {
+    ghost from_gives = { λ reply returns. let answer = ratio_answer reply.answer in
+        (returns.number ≡ (said_of answer).number) × (returns.ratio ≡ ratio_in answer) × (returns.walk ≡ reply.walk) };
 
-// The ratio of an answer, or 0.
-pub fn ratio_in(answer: Answer) -> i64
-    ensures { result ≡ ratio_in answer }
-{
-    match answer {
-        Answer::Refused(_) => 0,
-        Answer::Done => 0,
-        Answer::Position(_) => 0,
-        Answer::Worth(_, _, _) => 0,
-        Answer::Ratio(ratio) => ratio,
+    fn from(reply: Reply<i64>) -> Hedged {
+        Hedged {
+            number: number_in(&reply.answer),
+            ratio: reply.answer.unwrap_or(0),
+            walk: reply.walk,
+        }
     }
 }
 
 // The figures of an answer to a call for turns at a place.
-pub fn allotted_by(answer: Turned, place: usize) -> Allotted
+pub fn allotted_by(answer: Result<Served, NotTaken>, place: usize) -> Allotted
     ensures { result ≡ allotted_by answer place }
 {
     match answer {
-        Turned::Served(count, last) => Allotted {
+        Ok(turns) => Allotted {
             number: 0,
-            count: count,
-            place: last,
+            count: turns.count,
+            place: turns.last,
         },
-        Turned::Turns => Allotted {
-            number: 29,
+        Err(refused) => Allotted {
+            number: u8::from(refused),
             count: 0,
-            place: place,
+            place,
         },
     }
 }

@@ -6,6 +6,7 @@ ghost use Rattle.std.specs.Prelude.{◌≡◌, [], ◌+◌, min, length};
 ghost use Rattle.sheet.specs.Spans.{brought_in};
 ghost use Rattle.sheet.specs.Terms.{bare};
 ghost use Rattle.rows.specs.Rows.{rows_of, row_length};
+ghost use Rattle.figures.specs.Answer.{done_answer, position_answer, worth_answer, ratio_answer};
 ghost use Rattle.walk.specs.Calls.{replied};
 ghost use Rattle.answers.specs.OrderAnswers.{answer_said};
 ghost use Rattle.machine.specs.Rooms.{
@@ -19,8 +20,9 @@ ghost use Rattle.machine.specs.Rooms.{
 };
 
 use answers::OrderAnswer;
+use refusals::Refusal;
 use sheet::{COUNTS_MOST, NAMES_MOST, Pool, ROW_MOST, Sheet};
-use walk::{Found, Reply, Walk};
+use walk::{Reply, Walk, Worth};
 
 // How many numbers of a room are lent: those of the sheet's rows. All of it where they are more, whose pool is refused.
 fn row_size(pool: Pool) -> usize
@@ -57,9 +59,9 @@ pub fn open(
     register: &[u8],
     defaults: &mut [u64],
     premiums: &mut [u64],
-) -> Reply
+) -> Reply<()>
     requires { (length defaults.old ≡ 1134) × (length premiums.old ≡ 1134) }
-    ensures { replied result defaults.new premiums.new
+    ensures { replied done_answer result defaults.new premiums.new
         ≡ open_in_rooms (brought_in sheet numbers.now) register.now walk
         (rows_of defaults.old premiums.old) }
 {
@@ -82,9 +84,9 @@ pub fn back(
     defaults: &mut [u64],
     premiums: &mut [u64],
     count: usize,
-) -> Reply
+) -> Reply<usize>
     requires { (length defaults.old ≡ 1134) × (length premiums.old ≡ 1134) }
-    ensures { replied result defaults.new premiums.new
+    ensures { replied position_answer result defaults.new premiums.new
         ≡ back_in_rooms (brought_in sheet numbers.now) register.now walk
         (rows_of defaults.old premiums.old) count }
 {
@@ -109,9 +111,9 @@ pub fn value(
     premiums: &[u64],
     tranche: usize,
     count: usize,
-) -> Reply
+) -> Reply<Worth>
     requires { (length defaults.now ≡ 1134) × (length premiums.now ≡ 1134) }
-    ensures { replied result defaults.now premiums.now
+    ensures { replied worth_answer result defaults.now premiums.now
         ≡ value_in_rooms (brought_in sheet numbers.now) register.now walk
         (rows_of defaults.now premiums.now) tranche count }
 {
@@ -137,9 +139,9 @@ pub fn hedge_ratio(
     premiums: &[u64],
     tranche: usize,
     count: usize,
-) -> Reply
+) -> Reply<i64>
     requires { (length defaults.now ≡ 1134) × (length premiums.now ≡ 1134) }
-    ensures { replied result defaults.now premiums.now
+    ensures { replied ratio_answer result defaults.now premiums.now
         ≡ ratio_in_rooms (brought_in sheet numbers.now) register.now walk
         (rows_of defaults.now premiums.now) tranche count }
 {
@@ -156,13 +158,11 @@ pub fn hedge_ratio(
 }
 
 // What forward says of a count above the names, by what it is refused for: 14 where that is nothing.
-fn off_tree(found: Found) -> OrderAnswer
+fn off_tree(found: Result<(), Refusal>) -> OrderAnswer
     ensures { answer_said result ≡ off_tree_said found }
 {
-    match found {
-        Found::Refused(refusal) => answers::of_walk(walk::Answer::Refused(refusal)),
-        Found::Fine => OrderAnswer::Refused(14),
-    }
+    let refusal = found.err().unwrap_or(Refusal::OffTree);
+    OrderAnswer::Refused(refusal.into())
 }
 
 // Forward, and what it says of a count. 14 comes after the call's own refusals, and leaves the row as they do: it is judged on what is only read.
@@ -184,9 +184,8 @@ pub fn forward(
         let found = walk::judge_forward(sheet, numbers, register, &row[..size], steps);
         return off_tree(found);
     }
-    let answer = walk::forward(sheet, numbers, register, &mut row[..size], steps);
-    if let walk::Answer::Done = answer {
-        return OrderAnswer::Probability(row[count]);
+    match walk::forward(sheet, numbers, register, &mut row[..size], steps) {
+        Ok(()) => OrderAnswer::Probability(row[count]),
+        Err(refusal) => OrderAnswer::Refused(refusal.into()),
     }
-    answers::of_walk(answer)
 }

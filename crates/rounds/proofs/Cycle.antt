@@ -1,10 +1,7 @@
 -- Places on a cycle: how far one lies ahead of another, and where it stands in the round from p. Assumes nothing.
-use mathlib.Core.Path.{◌≡◌, refl, ap, ◌∙◌}
-use mathlib.Core.Bool.{Bool, true, false, cond}
-use Prim.Native.Nat.{ℕ, suc, ◌+◌, ◌-◌, ◌<◌, ◌≤◌}
-use native.Mathlib.Omega.{arith}
-use lib.Dec.{ltb, eqb}
-use borrow.Author.Tests.{lt-ltb, le-ltb, ltb-true, ltb-false, eqb-true, eqb-false}
+use Rattle.std.proofs.Common.{◌≡◌, refl, ap, ◌∙◌, Bool, true, false, cond, ℕ, suc, ◌+◌, ◌-◌, ◌<◌, ◌≤◌, arith, ltb, eqb, lt-ltb, le-ltb, ltb-true}
+use Rattle.std.proofs.Common.{ltb-false, eqb-true}
+use borrow.Author.Tests.{eqb-false}
 use Rattle.places.specs.Places.{next_place}
 use Rattle.rounds.specs.Rounds.{ahead}
 use Rattle.places.proofs.Laws.{next_more, next_wrap}

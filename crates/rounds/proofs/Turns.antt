@@ -1,14 +1,7 @@
 -- Turns in cyclic order are fair: what `places` serves, over any number of turns. Assumes nothing.
-use mathlib.Core.Path.{◌≡◌, refl, sym, ap, ◌∙◌}
-use mathlib.Core.Bool.{Bool, true, false}
-use mathlib.Core.List.{List, [], ◌∷◌, ◌++◌}
-use Prim.Native.Nat.{ℕ, zero, suc, ◌+◌, ◌-◌, ◌<◌, ◌≤◌}
-use native.Mathlib.Omega.{arith}
-use native.Mathlib.Nat.{zero-add, suc-add}
-use lib.ListN.{length, get_or, length-set, get_or-eq_default}
-use lib.Seq.{get_or-set_same, get_or-set_other}
-use lib.Dec.{ltb}
-use borrow.Author.Tests.{ltb-true, ltb-false, eq-eqb, ne_eqb}
+use Rattle.std.proofs.Common.{◌≡◌, refl, sym, ap, ◌∙◌, Bool, true, false, List, [], ◌∷◌, ◌++◌, ℕ, zero, suc, ◌+◌, ◌-◌, ◌<◌, ◌≤◌, arith, zero-add}
+use Rattle.std.proofs.Common.{suc-add, length, get_or, length-set, get_or-set_same, get_or-set_other, ltb, ltb-true, ltb-false, eq-eqb, ne_eqb}
+use lib.ListN.{get_or-eq_default}
 use Rattle.places.specs.Places.{next_place, first_of, chosen, one_off, Stretch, rests, turns_of}
 use Rattle.places.proofs.Laws.{next_below, first_hit, first_miss, turns_stop, turns_go}
 use Rattle.places.proofs.Partway.{first_none, first_some, chosen_some}

@@ -1,12 +1,6 @@
 -- The front of an array, lent.
-use Prim.Native.Nat.{ℕ, zero, suc, ◌+◌, ◌*◌, ◌≤◌}
-use mathlib.Core.Path.{◌≡◌, refl, sym, ◌∙◌}
-use mathlib.Core.List.{List}
-use native.Mathlib.Nat.{mul-le-mul}
-use native.Mathlib.Numerals.{add-one}
-use native.Mathlib.Omega.{arith}
-use lib.ListN.{length, get_or, take, replicate}
-use lib.Seq.{length-take-le}
+use Rattle.std.proofs.Common.{ℕ, zero, suc, ◌+◌, ◌*◌, ◌≤◌, ◌≡◌, refl, sym, ◌∙◌, List, mul-le-mul, add-one, arith, length, get_or, take, replicate}
+use Rattle.std.proofs.Common.{length-take-le}
 
 -- 9 rows of 126 counts are enough
 pub enough : (r n : ℕ) → r ≤ 8 → n ≤ 125 → (r + 1) * (n + 1) ≤ 1134

@@ -3,6 +3,7 @@ pub mod Search
 pub mod Sweep
 pub mod Nodes
 pub mod Parts
+pub mod Chunks
 pub mod Rolls
 pub mod Rolled
 pub mod Sums

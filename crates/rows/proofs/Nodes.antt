@@ -1,8 +1,5 @@
 -- Laws of one node's step back.
-use Prim.Native.Nat.{ℕ, ◌+◌, ◌-◌, ◌*◌, ◌≤◌}
-use mathlib.Core.Path.{◌≡◌}
-use native.Mathlib.Nat.{mul-le-mul, mul-le-mul_left, add-mul, add-sub_of_le, zero-mul, mul-zero}
-use native.Mathlib.Omega.{arith}
+use Rattle.std.proofs.Common.{ℕ, ◌+◌, ◌-◌, ◌*◌, ◌≤◌, ◌≡◌, mul-le-mul, mul-le-mul_left, add-mul, add-sub_of_le, zero-mul, mul-zero, arith}
 use Rattle.cash.specs.Units.{B, half}
 use Rattle.cash.specs.Losses.{premium_payment}
 use Rattle.cash.proofs.Rounding.{half_most, half_whole}

@@ -1,12 +1,8 @@
 -- Laws of rows walked back: lengths, nodes, and two walks as one.
-use Prim.Native.Nat.{ℕ, zero, suc, ◌+◌, ◌-◌, ◌*◌, ◌≤◌, ◌<◌}
-use mathlib.Core.Path.{◌≡◌, refl, ap, sym, ◌∙◌}
-use mathlib.Core.List.{List}
-use native.Mathlib.Omega.{arith}
+use Rattle.std.proofs.Common.{ℕ, zero, suc, ◌+◌, ◌-◌, ◌*◌, ◌≤◌, ◌<◌, ◌≡◌, refl, ap, sym, ◌∙◌, List, arith, add-zero, add-suc, length, get_or, lt-ltb}
+use Rattle.std.proofs.Common.{le-ltb}
 use native.Mathlib.Decide.{dec_lt}
-use native.Mathlib.Nat.{add-zero, add-suc}
-use lib.ListN.{length, get_or, get_or-eq_default}
-use borrow.Author.Tests.{lt-ltb, le-ltb}
+use lib.ListN.{get_or-eq_default}
 use Rattle.tree.specs.Paths.{survive, default}
 use Rattle.tree.specs.Backward.{roll_node, back_from, back, Leg, leg_value}
 use Rattle.sheet.specs.Terms.{Terms}

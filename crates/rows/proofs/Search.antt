@@ -1,9 +1,6 @@
 -- Laws of a test that holds at one of some numbers, or at none.
-use Prim.Native.Nat.{ℕ, zero, suc, ◌<◌}
-use mathlib.Core.Path.{◌≡◌, refl}
-use mathlib.Core.Bool.{Bool, true, false, ◌||◌}
-use native.Mathlib.Omega.{arith}
-use native.Mathlib.Nat.{le_refl, le_step}
+use Rattle.std.proofs.Common.{ℕ, zero, suc, ◌<◌, ◌≡◌, refl, Bool, true, false, ◌||◌, arith, le_refl}
+use native.Mathlib.Nat.{le_step}
 use native.Mathlib.Decide.{ℕ_discrete}
 use Rattle.rows.specs.Tables.{any}
 

@@ -1,13 +1,16 @@
 -- The accruals after a step.
-use Prim.Native.Nat.{ℕ, zero, suc, ◌+◌, ◌-◌, ◌≤◌, ◌<◌, min}
-use mathlib.Core.Path.{◌≡◌, ap, sym, ◌∙◌}
-use mathlib.Core.List.{List, [], ◌∷◌}
-use native.Mathlib.Nat.{le_refl}
-use native.Mathlib.Omega.{arith}
-use lib.ListN.{length, get_or, drop, drop_of_length-le}
+use Rattle.std.proofs.Common.{ℕ, zero, suc, ◌+◌, ◌≤◌, ◌<◌, min, ◌≡◌, refl, ap, sym, ◌∙◌, List, [], ◌∷◌, le_refl, arith, length, get_or, drop}
+use Rattle.std.proofs.Common.{drop_of_length-le, drop-cons}
 use native.Mathlib.Decide.{dec_lt}
-use lib.Seq.{drop-cons}
+use Rattle.std.specs.List.{sum}
+use Rattle.std.proofs.lemmas.List.Sums.{sum_by-cons}
 use Rattle.sheet.specs.Terms.{sum_of}
+
+-- the library's sum of a list
+pub sum_listed : (l : List ℕ) → sum l ≡ sum_of l
+unfolding sum_of
+sum_listed [] = refl
+sum_listed (x ∷ l) = sum_by-cons (λ y. y) x l ∙ ap (λ (n : ℕ). x + n) (sum_listed l)
 
 pub sum_drop_most : (i : ℕ) (l : List ℕ) → sum_of (drop i l) ≤ sum_of l
 unfolding sum_of
@@ -23,12 +26,6 @@ sum_drop i l h = ap sum_of (drop-cons l i 0 h)
 pub sum_drop_past : (i : ℕ) (l : List ℕ) → length l ≤ i → sum_of (drop i l) ≡ 0
 unfolding sum_of
 sum_drop_past i l h = ap sum_of (drop_of_length-le l h)
-
--- the sum from i on, with what stands before i, as a loop that goes down has it
-pub sum_drop_before : (i : ℕ) (l : List ℕ) (sum : ℕ) → 0 < i → i ≤ length l → sum ≡ sum_of (drop i l) → sum + get_or l (i - 1) 0 ≡ sum_of (drop (i - 1) l)
-sum_drop_before i l sum p h e =
-    let f : suc (i - 1) ≡ i = omega arith in
-    omega (arith, sum_drop (i - 1) l (omega arith), ap (λ (n : ℕ). sum_of (drop n l)) f)
 
 -- a start past the end sums to nothing, as the end does
 pub sum_drop_from : (i n : ℕ) (l : List ℕ) → i ≡ min n (length l) → sum_of (drop i l) ≡ sum_of (drop n l)

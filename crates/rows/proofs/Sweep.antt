@@ -1,11 +1,9 @@
 -- A list that is rewritten in place from the front: what is passed follows the rule f, what is to come is as it was.
-use Prim.Native.Nat.{ℕ, ◌+◌, ◌-◌, ◌≤◌, ◌<◌}
-use mathlib.Core.Path.{◌≡◌, refl, ap, sym, ◌∙◌}
-use mathlib.Core.List.{List, ◌++◌}
-use native.Mathlib.Omega.{arith}
+use Rattle.std.proofs.Common.{ℕ, ◌+◌, ◌-◌, ◌≤◌, ◌<◌, ◌≡◌, refl, ap, sym, ◌∙◌, List, ◌++◌, arith, length, get_or, set, take, drop, length-set}
+use Rattle.std.proofs.Common.{length-append, length-drop, get_or-set_same, get_or-set_other, length-take-le, get_or-take, get_or-drop}
+use Rattle.std.proofs.Common.{get_or-append-add}
 use native.Mathlib.Decide.{dec_lt, ℕ_discrete}
-use lib.ListN.{length, get_or, set, take, drop, length-set, length-append, length-drop, get_or-append}
-use lib.Seq.{get_or-set_same, get_or-set_other, length-take-le, get_or-take, get_or-drop, get_or-append-add}
+use lib.ListN.{get_or-append}
 use Rattle.rows.specs.Tables.{tab}
 use Rattle.rows.proofs.Tables.{is_tab}
 
@@ -39,7 +37,7 @@ abbrev pub put : ℕ → ℕ → List ℕ → List ℕ → List ℕ
 put a k ys zs = take a ys ++ (zs ++ drop k (drop a ys))
 
 module _ (a k : ℕ) (ys zs : List ℕ) (fit : a + k ≤ length ys) (as_many : length zs ≡ k) where
-  put_before : (i : ℕ) → i < a → get_or (put a k ys zs) i 0 ≡ get_or ys i 0
+  pub put_before : (i : ℕ) → i < a → get_or (put a k ys zs) i 0 ≡ get_or ys i 0
   put_before i h =
       get_or-append (take a ys) _ 0 i (omega (arith, length-take-le a ys (omega arith)))
       ∙ get_or-take a ys i 0 h
@@ -52,7 +50,7 @@ module _ (a k : ℕ) (ys zs : List ℕ) (fit : a + k ≤ length ys) (as_many : l
   pub put_in : (i : ℕ) → i < k → get_or (put a k ys zs) (a + i) 0 ≡ get_or zs i 0
   put_in i h = put_from i ∙ get_or-append zs (drop k (drop a ys)) 0 i (omega arith)
 
-  put_after : (i : ℕ) → get_or (put a k ys zs) (a + (k + i)) 0 ≡ get_or ys (a + (k + i)) 0
+  pub put_after : (i : ℕ) → get_or (put a k ys zs) (a + (k + i)) 0 ≡ get_or ys (a + (k + i)) 0
   put_after i =
       put_from (k + i)
       ∙ ap (λ (n : ℕ). get_or (zs ++ drop k (drop a ys)) (n + i) 0) (sym as_many)
@@ -60,22 +58,7 @@ module _ (a k : ℕ) (ys zs : List ℕ) (fit : a + k ≤ length ys) (as_many : l
       ∙ get_or-drop k (drop a ys) i 0
       ∙ get_or-drop a ys (k + i) 0
 
-  length_put : length (put a k ys zs) ≡ length ys
+  pub length_put : length (put a k ys zs) ≡ length ys
   length_put =
       length-append (take a ys) (zs ++ drop k (drop a ys))
       ∙ omega (arith, length-append zs (drop k (drop a ys)), length-take-le a ys (omega arith), length-drop k (drop a ys), length-drop a ys)
-
-  pub swept_part : (f : ℕ → ℕ) (xs : List ℕ) → Swept f xs ys a → ((i : ℕ) → i < k → get_or zs i 0 ≡ f (a + i)) → Swept f xs (put a k ys zs) (a + k)
-  swept_part f xs s h = record {
-    same = length_put ∙ s.same;
-    passed = λ i q. go i q (dec_lt i a);
-    ahead = λ i q.
-        let e : i ≡ a + (k + (i - (a + k))) = omega arith in
-        ap (λ (n : ℕ). get_or (put a k ys zs) n 0) e ∙ put_after (i - (a + k)) ∙ ap (λ (n : ℕ). get_or ys n 0) (sym e) ∙ s.ahead i (omega arith);
-  }
-    where
-      go : (i : ℕ) → i < a + k → Dec (i < a) → get_or (put a k ys zs) i 0 ≡ f i
-      go i q (yes p) = put_before i p ∙ s.passed i p
-      go i q (no p) =
-          let e : i ≡ a + (i - a) = omega arith in
-          ap (λ (n : ℕ). get_or (put a k ys zs) n 0) e ∙ put_in (i - a) (omega arith) ∙ h (i - a) (omega arith) ∙ ap f (sym e)

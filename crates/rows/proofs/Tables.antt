@@ -1,11 +1,7 @@
 -- Laws of lists made by a rule, and of rows.
-use Prim.Native.Nat.{ℕ, zero, suc, ◌+◌, ◌*◌, ◌/◌, ◌%◌, ◌≤◌, ◌<◌}
-use mathlib.Core.Path.{◌≡◌, refl, ap, sym, ◌∙◌}
-use mathlib.Core.List.{List}
-use native.Mathlib.Nat.{le_of_suc-le-suc, not-suc-le-zero, div-add-mod', mod-lt, div-lt_iff_lt-mul}
-use native.Mathlib.Omega.{arith}
-use lib.ListN.{length, get_or}
-use lib.Seq.{ext_get_or}
+use Rattle.std.proofs.Common.{ℕ, zero, suc, ◌+◌, ◌*◌, ◌/◌, ◌%◌, ◌≤◌, ◌<◌, ◌≡◌, refl, ap, sym, ◌∙◌, List, le_of_suc-le-suc, not-suc-le-zero}
+use Rattle.std.proofs.Common.{div-add-mod', mod-lt, div-lt_iff_lt-mul, arith, length, get_or, replicate, ext_get_or}
+use Rattle.std.proofs.lemmas.List.{length-replicate, get_or-replicate}
 use lib.Arith.{digits_lt, digits_div, digits_mod}
 use Rattle.sheet.specs.Terms.{Terms}
 use Rattle.rows.specs.Tables.{tab, entry, grid}
@@ -91,3 +87,7 @@ row_cong x f g h = grid_cong _ _ f g (omega arith) (λ j k p q. h j k (omega ari
 pub is_row : (x : Terms) (l : List ℕ) (f : ℕ → ℕ → ℕ) → length l ≡ row_length x → ((j k : ℕ) → j ≤ x.tranches → k ≤ x.names → node_in x l j k ≡ f j k) → l ≡ row_of x f
 unfolding row_of node_in
 is_row x l f e h = is_grid l _ _ f (omega arith) e (λ j k p q. h j k (omega arith) (omega arith))
+
+-- one number throughout
+pub filled_tab : (n v : ℕ) (f : ℕ → ℕ) → ((k : ℕ) → v ≡ f k) → replicate n v ≡ tab n f
+filled_tab n v f h = is_tab (replicate n v) n f (length-replicate n v) (λ i l. get_or-replicate n i v 0 l ∙ h i)

@@ -3,3 +3,4 @@
 #![tactic(auto)]
 
 pub mod step; // step.rt: one step back
+pub mod table; // table.rt: the rows of a table

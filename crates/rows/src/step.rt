@@ -1,9 +1,12 @@
 // One step back: a node, a tranche's row, all rows, and the premium that is added first.
 ghost use Rattle.std.specs.Prelude.{◌≡◌, ℕ, suc, ◌+◌, ◌*◌, ◌≤◌, ◌<◌, length, get_or};
+ghost use Rattle.std.specs.Fork.{slice_chunk};
 ghost use Rattle.cash.specs.Units.{B};
 ghost use Rattle.tree.specs.Backward.{roll_node};
 ghost use Rattle.rows.specs.Tables.{tab, grid};
 ghost use Rattle.rows.specs.Kernels.{rolled_at, rolled_in, accrued_at, RowFits, RowsFit};
+
+use crate::table::fill_rows;
 
 // What a node is worth one step before a default leads to one figure and survival to another.
 fn roll_node(hazard: u64, discount: u64, defaulted: u64, survived: u64) -> u64
@@ -20,17 +23,12 @@ fn roll(row: &mut [u64], hazards: &[u64], discount: u64, cash: &[u64])
         ≡ tab (length row.old) (rolled_at hazards.now discount cash.now row.old) }
 {
     let names = hazards.len();
-    let mut k = 0;
-    while k < names {
-        let hazard = hazards[k];
+    for k in 0..names {
         let defaulted = row[k + 1] + cash[k];
-        let survived = row[k];
-        row[k] = roll_node(hazard, discount, defaulted, survived);
-        k += 1;
+        row[k] = roll_node(hazards[k], discount, defaulted, row[k]);
     }
     // no default comes from the last count
-    let last = row[names];
-    row[names] = roll_node(0, discount, 0, last);
+    row[names] = roll_node(0, discount, 0, row[names]);
 }
 
 // The rows of every tranche and the index one step back.
@@ -46,30 +44,30 @@ pub fn roll_all(
     ensures { rows.new
         ≡ grid (suc tranches) (suc names) (rolled_in (suc names) hazards.now discount cash.now rows.old) }
 {
-    let mut j = 0;
-    let mut a = 0;
-    while j <= tranches {
-        let e = a + names + 1;
-        roll(&mut rows[a..e], hazards, discount, &cash[a..e]);
-        a = e;
-        j += 1;
-    }
+    let width = names + 1;
+    fill_rows(
+        names,
+        tranches,
+        rows,
+        |j: usize, row: &mut [u64]|
+            requires { (j * width + width ≤ length cash.now) × RowFits row.now hazards.now discount (slice_chunk cash.now width j) }
+            ensures { row.exit.now
+                ≡ tab (length row.entry.now) (rolled_at hazards.entry.now discount (slice_chunk cash.entry.now width j) row.entry.now) }
+        { roll(row, hazards, discount, &cash[j * width..j * width + width]) },
+    );
 }
 
 // Adds the premium of an accrual to every entry. Most steps are no premium date.
 pub fn accrue(accrual: u64, outstandings: &[u64], rows: &mut [u64])
-    requires accrual_bound { (accrual ≤ B) × (length outstandings.now ≡ length rows.old) }
-    requires by_index { (i : ℕ) → i < length rows.old → get_or outstandings.now i 0 ≤ B }
-    requires by_index_2 { (i : ℕ) → i < length rows.old → get_or rows.old i 0 ≤ 18 * B }
+    requires accrual_most { (accrual ≤ B) × (length outstandings.now ≡ length rows.old) }
+    requires outstandings_most { (i : ℕ) → i < length rows.old → get_or outstandings.now i 0 ≤ B }
+    requires rows_most { (i : ℕ) → i < length rows.old → get_or rows.old i 0 ≤ 18 * B }
     ensures { rows.new ≡ tab (length rows.old) (accrued_at accrual outstandings.now rows.old) }
 {
     if accrual == 0 {
         return;
     }
-    let size = rows.len();
-    let mut i = 0;
-    while i < size {
-        rows[i] = rows[i] + cash::premium_payment(accrual, outstandings[i]);
-        i += 1;
+    for (i, entry) in rows.iter_mut().enumerate() {
+        *entry += cash::premium_payment(accrual, outstandings[i]);
     }
 }

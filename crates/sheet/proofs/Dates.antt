@@ -1,8 +1,5 @@
 -- Laws of premium dates.
-use Prim.Native.Nat.{ℕ, zero, suc, ◌≤◌, zero-le}
-use native.Mathlib.Omega.{arith}
-use mathlib.Core.List.{List, [], ◌∷◌}
-use lib.ListN.{get_or}
+use Rattle.std.proofs.Common.{ℕ, zero, suc, ◌≤◌, zero-le, arith, List, [], ◌∷◌, get_or}
 use Rattle.sheet.specs.Terms.{sum_of}
 use Rattle.sheet.specs.Dates.{next_accrual}
 

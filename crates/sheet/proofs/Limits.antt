@@ -1,12 +1,7 @@
 -- What the limits of a sheet tell of every place of its lists, and of a sheet lent in part.
-use Prim.Native.Nat.{ℕ, ◌+◌, ◌≤◌, ◌<◌}
-use native.Mathlib.Nat.{le_trans}
-use mathlib.Core.Path.{◌≡◌, refl}
-use mathlib.Core.List.{List}
-use native.Mathlib.Omega.{arith}
+use Rattle.std.proofs.Common.{ℕ, ◌+◌, ◌≤◌, ◌<◌, le_trans, ◌≡◌, refl, List, arith, length, get_or, drop, get_or-drop}
 use native.Mathlib.Decide.{dec_lt}
-use lib.ListN.{length, get_or, drop, get_or-eq_default}
-use lib.Seq.{get_or-drop}
+use lib.ListN.{get_or-eq_default}
 use Rattle.cash.specs.Units.{B}
 use Rattle.sheet.specs.declared.Pool.{Pool}
 use Rattle.sheet.specs.Terms.{Terms, terms_of, bare}

@@ -1,15 +1,9 @@
 -- Laws of periods.
-use Prim.Native.Nat.{ℕ, zero, suc, pred, ◌+◌, ◌-◌, ◌*◌, ◌≤◌, ◌<◌, zero-le}
-use mathlib.Core.Path.{◌≡◌, refl, ◌∙◌, ap}
-use mathlib.Core.Bool.{Bool, true, false, cond}
-use mathlib.Core.List.{List, [], ◌∷◌}
-use native.Mathlib.Omega.{arith}
+use Rattle.std.proofs.Common.{ℕ, zero, suc, pred, ◌+◌, ◌-◌, ◌*◌, ◌≤◌, ◌<◌, zero-le, ◌≡◌, refl, ◌∙◌, ap, Bool, true, false, cond, List, [], ◌∷◌, arith}
+use Rattle.std.proofs.Common.{le_refl, mul-le-mul_right, leb, le-leb, length, get_or, take, drop, length-drop, length-take-le, get_or-take}
+use Rattle.std.proofs.Common.{get_or-drop}
 use native.Mathlib.Decide.{dec_le, dec_lt}
-use native.Mathlib.Nat.{le_refl, mul-le-mul_right}
-use lib.Dec.{leb}
-use borrow.Author.Tests.{le-leb, lt-leb}
-use lib.ListN.{length, get_or, take, drop, length-drop}
-use lib.Seq.{length-take-le, get_or-take, get_or-drop}
+use borrow.Author.Tests.{lt-leb}
 use Rattle.sheet.specs.Terms.{Terms}
 use Rattle.sheet.specs.Limits.{CurvesFit, StartsRise}
 use Rattle.sheet.proofs.Parts.{part_whole}

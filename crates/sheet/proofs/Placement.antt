@@ -1,6 +1,5 @@
 -- By computation.
-use mathlib.Core.Path.{refl}
-use native.Mathlib.Omega.{arith}
+use Rattle.std.proofs.Common.{refl, arith}
 use Rattle.sheet.specs.Spans.{list_in}
 use Rattle.sheet.specs.Placement.{ListsInPlace, SpansEnd, EachSpanCounts}
 

@@ -1,15 +1,11 @@
 -- A span within the numbers, and one that reaches past them.
-use Prim.Native.Nat.{ℕ, ◌+◌, ◌*◌, ◌≤◌, ◌<◌}
-use mathlib.Core.Path.{◌≡◌, refl, ◌∙◌, ap}
-use mathlib.Core.Bool.{Bool, true, false, cond}
-use mathlib.Core.List.{List, []}
-use native.Mathlib.Omega.{arith}
 use native.Mathlib.Decide.{dec_le}
-use native.Mathlib.Nat.{mul-le-mul_right}
-use borrow.Author.Tests.{le-leb, lt-leb}
-use lib.Dec.{leb}
-use lib.ListN.{length, take, drop, length-drop}
-use lib.Seq.{length-take-le}
+use borrow.Author.Tests.{lt-leb}
+use Rattle.std.proofs.Common.{ℕ, ◌+◌, ◌-◌, ◌*◌, ◌≤◌, ◌<◌, ◌≡◌, refl, ◌∙◌, ap, sym, Bool, true, false, cond, List, [], arith, mul-le-mul_right, le-leb}
+use Rattle.std.proofs.Common.{leb, length, take, drop, length-drop, length-take-le, Option, Some, None, Bor, inl, inr}
+use Rattle.std.specs.Option.{unwrap_or}
+use Rattle.std.specs.Slice.{IsGetRangeResult}
+use Rattle.sheet.proofs.Parts.{part_whole}
 use Rattle.sheet.specs.declared.Span.{Span}
 use Rattle.sheet.specs.declared.Sheet as Declared
 use Rattle.sheet.specs.Limits.{PoolInside, ListsFit}
@@ -22,6 +18,16 @@ list_within s numbers h = rw (le-leb (s.at + s.length) (length numbers) h) refl
 pub list_past : (s : Span) (numbers : List ℕ) → length numbers < s.at + s.length → list_in s numbers ≡ []
 unfolding list_in
 list_past s numbers h = rw (lt-leb (s.at + s.length) (length numbers) h) refl
+
+-- what stands from its start to its end, or nothing
+pub list_got : (s : Span) (numbers : List ℕ) (end : ℕ) (got : Option (Bor (List ℕ))) (empty r : Bor (List ℕ))
+    → IsGetRangeResult numbers s.at end got → end ≡ s.at + s.length → empty.now ≡ [] → r ≡ unwrap_or got empty
+    → r.now ≡ list_in s numbers
+list_got s numbers end None empty r g e z f =
+    ap (λ (y : Bor (List ℕ)). y.now) f ∙ z ∙ sym (list_past s numbers (elim g.0 [ inl p ↦ omega arith | inr p ↦ omega arith ]))
+list_got s numbers end (Some x) empty r g e z f =
+    ap (λ (y : Bor (List ℕ)). y.now) f ∙ g.0.2 ∙ ap (λ (k : ℕ). take (k - s.at) (drop s.at numbers)) e
+    ∙ part_whole numbers s.at s.length ∙ sym (list_within s numbers (omega (arith, g.0.1)))
 
 pub list_long : (s : Span) (numbers : List ℕ) → Within s numbers → length (list_in s numbers) ≡ s.length
 list_long s numbers h =

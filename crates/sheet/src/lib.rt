@@ -62,17 +62,11 @@ pub struct Sheet {
 pub fn part<'a>(span: Span, numbers: &'a [u64]) -> &'a [u64]
     ensures { result.now ≡ list_in span numbers.now }
 {
-    let size = numbers.len();
-    let at = span.at;
-    if size < at {
-        return &numbers[size..size];
-    }
-    let length = span.length;
-    if size - at < length {
-        return &numbers[at..at];
-    }
-    let end = at + length;
-    &numbers[at..end]
+    let Span { at, length } = span;
+    let Some(end) = at.checked_add(length) else {
+        return &[];
+    };
+    numbers.get(at..end).unwrap_or(&[])
 }
 
 // The number at a place of a span's list.
@@ -80,6 +74,5 @@ pub fn number_at(span: Span, numbers: &[u64], place: usize) -> u64
     requires { place < length (list_in span numbers.now) }
     ensures { result ≡ get_or (list_in span numbers.now) place 0 }
 {
-    let list = part(span, numbers);
-    list[place]
+    part(span, numbers)[place]
 }

@@ -1,15 +1,8 @@
 -- Whether premium is paid in a walk.
-use Prim.Native.Nat.{ℕ, suc, ◌+◌, ◌-◌, ◌*◌, ◌≤◌, ◌<◌}
-use native.Mathlib.Nat.{zero-mul}
-use mathlib.Core.Path.{◌≡◌, refl, ap, sym, ◌∙◌}
-use mathlib.Core.Bool.{Bool, true, false, not, cond, ◌||◌}
-use mathlib.Core.List.{List}
-use native.Mathlib.Numerals.{add-one}
-use native.Mathlib.Omega.{arith}
-use lib.ListN.{length, get_or}
-use lib.Dec.{eqb}
-use borrow.Author.Count.{below_more}
-use borrow.Author.Tests.{eqb-true, not-false, eq-eqb, ne_eqb}
+use Rattle.std.proofs.Common.{ℕ, zero, suc, ◌+◌, ◌-◌, ◌*◌, ◌≤◌, ◌<◌, zero-mul, ◌≡◌, refl, ap, sym, ◌∙◌, Bool, true, false, not, cond, ◌||◌, List}
+use Rattle.std.proofs.Common.{add-one, arith, length, get_or, take, drop, drop-cons, eqb, eqb-true}
+use borrow.Author.Tests.{not-false}
+use Rattle.std.specs.List.{list_any}
 use Rattle.cash.specs.Units.{B, half}
 use Rattle.cash.specs.Losses.{premium_payment, elapsed_payment}
 use Rattle.cash.proofs.Losses.{premium_payment_most}
@@ -17,10 +10,10 @@ use Rattle.sheet.specs.Terms.{Terms}
 use Rattle.sheet.specs.Limits.{TranchesWithin}
 use Rattle.tree.specs.Sheet.{outstanding_of}
 use Rattle.tree.proofs.Sheets.{outstanding_within, outstanding_less}
-use Rattle.rows.specs.Tables.{tab, entry}
+use Rattle.rows.specs.Tables.{tab, entry, any}
 use Rattle.rows.specs.Rows.{row_length, node_in, row_of}
 use Rattle.rows.specs.Kernels.{accrued_at, due_in, FallingRows}
-use Rattle.rows.proofs.Search.{any_hit, any_missed, any_none}
+use Rattle.rows.proofs.Search.{any_none}
 use Rattle.rows.proofs.Tables.{length_tab, get_d_tab, is_tab, length_row, node_row}
 use Rattle.tranches.proofs.Losses.{outstandings_low}
 
@@ -28,35 +21,35 @@ use Rattle.tranches.proofs.Losses.{outstandings_low}
 pub record Undue (accruals : List ℕ) (i n : ℕ) : Type 0 where
   pub none : (d : ℕ) → d < n → get_or accruals (i - suc d) 0 ≡ 0
 
-pub undue_none : (accruals : List ℕ) (i : ℕ) → Undue accruals i 0
-undue_none accruals i = record { none = λ d h. absurd (omega arith) }
+undue : (accruals : List ℕ) (i c : ℕ) → due_in accruals i c ≡ false → Undue accruals i c
+unfolding due_in
+undue accruals i c e = record { none = λ d h. eqb-true _ 0 (not-false _ (any_none c (λ d. not (eqb (get_or accruals (i - suc d) 0) 0)) e d h)) }
 
-module _ (accruals : List ℕ) (i : ℕ) where
-  pub undue_more : {n : ℕ} → Undue accruals i n → get_or accruals (i - (n + 1)) 0 ≡ 0 → Undue accruals i (n + 1)
-  undue_more {n} u e =
-      record { none = below_more (λ d. get_or accruals (i - suc d) 0 ≡ 0) n u.none (ap (λ (m : ℕ). get_or accruals (i - m) 0) (sym (add-one n)) ∙ e) }
+or_swap : (a b : Bool) → (a || b) ≡ (b || a)
+or_swap true true = refl
+or_swap true false = refl
+or_swap false true = refl
+or_swap false false = refl
 
-  pub due_found : (n c : ℕ) → n < c → (get_or accruals (i - (n + 1)) 0 ≡ 0 → ⊥) → true ≡ due_in accruals i c
-  unfolding due_in
-  due_found n c h e =
-      let other : get_or accruals (i - suc n) 0 ≡ 0 → ⊥ = rw (add-one n) at e in
-      sym (any_hit c (λ d. not (eqb (get_or accruals (i - suc d) 0) 0)) n h (ap not (ne_eqb _ 0 other)))
+-- a test at one of the c numbers before place i
+part_any : (test : ℕ → Bool) (l : List ℕ) (i c : ℕ) → c ≤ i → i ≤ length l → list_any test (take c (drop (i - c) l)) ≡ any c (λ d. test (get_or l (i - suc d) 0))
+unfolding any
+part_any test l i zero h q = refl
+part_any test l i (suc c) h q =
+    let e : suc (i - suc c) ≡ i - c = omega arith in
+    let n : i - suc c < length l = omega arith in
+    ap (λ (r : List ℕ). list_any test (take (suc c) r)) (drop-cons l (i - suc c) 0 n)
+    ∙ ap (λ (k : ℕ). test (get_or l (i - suc c) 0) || list_any test (take c (drop k l))) e
+    ∙ ap (λ (b : Bool). test (get_or l (i - suc c) 0) || b) (part_any test l i c (omega arith) q)
+    ∙ or_swap (test (get_or l (i - suc c) 0)) (any c (λ d. test (get_or l (i - suc d) 0)))
 
-  pub due_none : {n c : ℕ} → c ≤ n → Undue accruals i n → false ≡ due_in accruals i c
-  unfolding due_in
-  due_none {n} {c} h u = sym (any_missed c (λ d. not (eqb (get_or accruals (i - suc d) 0) 0)) (λ d q. ap not (eq-eqb _ 0 (u.none d (omega arith)))))
-
-  pub undue : (c : ℕ) → due_in accruals i c ≡ false → Undue accruals i c
-  unfolding due_in
-  undue c e = record { none = λ d h. eqb-true _ 0 (not-false _ (any_none c (λ d. not (eqb (get_or accruals (i - suc d) 0) 0)) e d h)) }
+pub part_due : (l : List ℕ) (i c : ℕ) → c ≤ i → i ≤ length l → list_any (λ x. not (eqb x 0)) (take (i - (i - c)) (drop (i - c) l)) ≡ due_in l i c
+unfolding due_in
+part_due l i c h q =
+    let e : i - (i - c) ≡ c = omega arith in
+    ap (λ (k : ℕ). list_any (λ x. not (eqb x 0)) (take k (drop (i - c) l))) e ∙ part_any (λ x. not (eqb x 0)) l i c h q
 
 -- ---- a table that is filled only where something is due
-
-pub cond_due : (b : Bool) (l m : List ℕ) → b ≡ true → cond b l m ≡ l
-cond_due b l m e = rw e
-
-pub cond_undue : (b : Bool) (l m : List ℕ) → b ≡ false → cond b l m ≡ m
-cond_undue b l m e = rw e
 
 -- A table that pays, in every step of a walk, as the table of what is outstanding would: on its date, and up to a default.
 pub record Left (x : Terms) (position count : ℕ) (left : List ℕ) : Type 0 where

@@ -1,12 +1,6 @@
 -- Sums over the positions part way, of gains and losses alike.
-use Prim.Native.Nat.{ℕ, suc, ◌+◌, ◌*◌, ◌<◌, ◌≤◌}
-use mathlib.Core.Path.{◌≡◌, refl, ap, ◌∙◌}
-use mathlib.Core.Bool.{Bool, true, false}
-use mathlib.Core.List.{List, [], ◌∷◌}
-use native.Mathlib.Omega.{arith}
-use lib.IntN.{ℤ, pos, negsuc, nat_abs, ◌+ℤ◌, ◌*ℤ◌}
-use lib.ListN.{length, get_or, drop, drop_of_length-le}
-use lib.Seq.{drop-cons}
+use Rattle.std.proofs.Common.{ℕ, suc, ◌+◌, ◌*◌, ◌<◌, ◌≤◌, ◌≡◌, refl, ap, ◌∙◌, Bool, true, false, List, [], ◌∷◌, arith, ℤ, pos, negsuc, nat_abs, ◌+ℤ◌}
+use Rattle.std.proofs.Common.{◌*ℤ◌, length, get_or, drop, drop_of_length-le, drop-cons}
 use Rattle.hedges.specs.Hedges.{with_sign}
 use Rattle.hedges.proofs.Signs.{plus}
 use Rattle.amounts.specs.declared.Amount.{Amount}

@@ -1,10 +1,7 @@
 -- A product of two signed numbers by sign and size, and its size in billions and units.
-use Prim.Native.Nat.{ℕ, zero, suc, ◌+◌, ◌*◌, ◌/◌, ◌%◌, ◌≤◌}
-use mathlib.Core.Path.{◌≡◌, refl, sym, ap, ◌∙◌}
-use mathlib.Core.Bool.{Bool, true, false}
-use native.Mathlib.Nat.{div-add-mod', mul-add, mul_assoc, mul-le-mul}
-use native.Mathlib.Omega.{arith}
-use lib.IntN.{ℤ, pos, negsuc, nat_abs, ◌*ℤ◌, pos-*ℤ-pos, pos-*ℤ-negsuc, negsuc-*ℤ-pos, negsuc-*ℤ-negsuc}
+use Rattle.std.proofs.Common.{ℕ, zero, suc, ◌+◌, ◌*◌, ◌/◌, ◌%◌, ◌≤◌, ◌≡◌, refl, sym, ap, ◌∙◌, Bool, true, false, div-add-mod', mul-add, mul_assoc}
+use Rattle.std.proofs.Common.{mul-le-mul, arith, ℤ, pos, negsuc, nat_abs, ◌*ℤ◌}
+use lib.IntN.{pos-*ℤ-pos, pos-*ℤ-negsuc, negsuc-*ℤ-pos, negsuc-*ℤ-negsuc}
 use Rattle.hedges.specs.Hedges.{negative, unlike, with_sign}
 use Rattle.amounts.specs.declared.Amount.{Amount}
 use Rattle.totals.specs.Totals.{gain_of, loss_of}

@@ -1,14 +1,8 @@
 -- The test of a book is whether it is taken.
-use Prim.Native.Nat.{ℕ, zero, suc, ◌≤◌, ◌<◌}
-use mathlib.Core.Path.{◌≡◌, refl, sym, ap, ◌∙◌}
-use mathlib.Core.Bool.{Bool, true, false, ◌&&◌, true≢false}
-use mathlib.Core.List.{List, [], ◌∷◌}
-use native.Mathlib.Omega.{arith}
-use borrow.Author.Tests.{eq-eqb, eqb-true, le-leb, lt-leb, leb-true}
-use lib.Dec.{eqb, leb}
-use lib.IntN.{ℤ, pos, nat_abs}
-use lib.ListN.{length, get_or, drop, drop_of_length-le}
-use lib.Seq.{drop-cons}
+use Rattle.std.proofs.Common.{ap, ◌∙◌, drop, drop_of_length-le, drop-cons, false, ◌<◌, ℕ, zero, suc, ◌≤◌, ◌≡◌, refl, sym, Bool, true, ◌&&◌}
+use Rattle.std.proofs.Common.{true≢false, List, [], ◌∷◌, arith, eq-eqb, eqb-true, le-leb, leb-true, eqb, leb, ℤ, pos, nat_abs, length, get_or}
+use borrow.Author.Tests.{lt-leb}
+use borrow.Author.Tests.{lt-leb}
 use Rattle.totals.specs.Totals.{Within, Taken, all_within, taken}
 
 pub both : (a b : Bool) → (a && b) ≡ true → (a ≡ true) × (b ≡ true)

@@ -2,7 +2,7 @@
 
 #![tactic(auto)]
 
-ghost use Rattle.std.specs.Prelude.{◌≡◌, ◌*◌, ◌≤◌, nat_abs, length};
+ghost use Rattle.std.specs.Prelude.{◌≡◌, ◌*◌, ◌≤◌, nat_abs};
 ghost use Rattle.totals.specs.Totals.{all_within, taken, Taken};
 ghost use Rattle.totals.specs.Sums.{Room, Grown, Added, Summed, Figures};
 
@@ -32,17 +32,14 @@ pub struct Totals {
     pub losses: Figure,
 }
 
-// Whether each entry is at most so far from 0.
+// Whether each entry is at most so far from 0. A loop: tried as `all`, the proof leaves open that its result is that of the test on each entry.
 fn all_within(list: &[i64], most: u64) -> bool
-    requires { length list.now ≤ 4_096 }
     ensures { result ≡ all_within most list.now }
 {
-    let mut i = 0;
-    while i < list.len() {
-        if most < hedges::magnitude(list[i]) {
+    for entry in list {
+        if most < hedges::magnitude(*entry) {
             return false;
         }
-        i += 1;
     }
     true
 }
@@ -51,16 +48,10 @@ fn all_within(list: &[i64], most: u64) -> bool
 pub fn is_taken(nominals: &[i64], values: &[i64]) -> bool
     ensures { result ≡ taken nominals.now values.now }
 {
-    if nominals.len() != values.len() {
-        return false;
-    }
-    if POSITIONS_MOST < nominals.len() {
-        return false;
-    }
-    if all_within(nominals, NOMINAL_MOST) {
-        return all_within(values, VALUE_MOST);
-    }
-    false
+    nominals.len() == values.len()
+        && nominals.len() <= POSITIONS_MOST
+        && all_within(nominals, NOMINAL_MOST)
+        && all_within(values, VALUE_MOST)
 }
 
 // A product more: neither half of it passes 64 bits.
@@ -108,10 +99,8 @@ fn sum_positions(nominals: &[i64], values: &[i64]) -> Sums
         gains: none,
         losses: none,
     };
-    let mut i = 0;
-    while i < nominals.len() {
-        sums = add_position(sums, nominals[i], values[i]);
-        i += 1;
+    for (nominal, value) in nominals.iter().zip(values) {
+        sums = add_position(sums, *nominal, *value);
     }
     sums
 }

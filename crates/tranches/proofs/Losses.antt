@@ -1,13 +1,7 @@
 -- Laws of losses, widths and what is outstanding, on a sheet.
-use Prim.Native.Nat.{ℕ, suc, ◌+◌, ◌-◌, ◌≤◌, ◌<◌}
-use mathlib.Core.Path.{◌≡◌, refl, ap, ap₂, sym, ◌∙◌}
-use mathlib.Core.List.{List}
-use native.Mathlib.Nat.{le_of_lt}
-use native.Mathlib.Numerals.{add-one}
-use native.Mathlib.Omega.{arith}
+use Rattle.std.proofs.Common.{ℕ, suc, ◌+◌, ◌-◌, ◌≤◌, ◌<◌, ◌≡◌, refl, ap, ap₂, sym, ◌∙◌, List, le_of_lt, add-one, arith, length, get_or, lt-ltb}
+use Rattle.std.proofs.Common.{le-ltb}
 use native.Mathlib.Decide.{dec_lt}
-use lib.ListN.{length, get_or}
-use borrow.Author.Tests.{lt-ltb, le-ltb}
 use Rattle.cash.specs.Units.{B}
 use Rattle.cash.specs.Losses.{pool_loss, pool_recovery, tranche_loss, left_to_lose, tranche_outstanding, index_outstanding, default_payment}
 use Rattle.cash.proofs.Losses.{pool_loss_most, tranche_loss_whole}
@@ -63,9 +57,6 @@ outstanding_is x j k loss recovered r h e g q =
     q
     ∙ (λ t. tranche_outstanding (get_or x.attachments j 0) (get_or x.attachments (add-one j t) 0) (e t) (g t))
     ∙ sym (outstanding_tranche x j k h)
-
-pub width_is : (x : Terms) (j : ℕ) → j < x.tranches → get_or x.attachments (j + 1) 0 - get_or x.attachments j 0 ≡ width_of x j
-width_is x j h = ap (λ (n : ℕ). get_or x.attachments n 0 - get_or x.attachments j 0) (add-one j) ∙ sym (width_tranche x j h)
 
 pub rises_here : (x : Terms) (j : ℕ) → TranchesWithin x → j < x.tranches → get_or x.attachments j 0 ≤ get_or x.attachments (j + 1) 0
 rises_here x j t h = rw (add-one j) (le_of_lt (t.attachments.rise j h))
@@ -171,10 +162,6 @@ payment_last x j k h = rw (le-ltb k x.names h)
 -- ---- no list but the attachments counts
 
 module _ (pool : Pool) (attachments starts hazards discounts accruals elapsed : List ℕ) where
-  pub loss_bare : loss_of (bare pool attachments) ≡ loss_of (terms_of pool attachments starts hazards discounts accruals elapsed)
-  unfolding loss_of pool_loss_of
-  loss_bare = refl
-
   pub outstanding_bare : outstanding_of (bare pool attachments) ≡ outstanding_of (terms_of pool attachments starts hazards discounts accruals elapsed)
   unfolding outstanding_of pool_loss_of pool_recovery_of
   outstanding_bare = refl

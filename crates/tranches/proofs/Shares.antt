@@ -1,18 +1,13 @@
 -- Multiples of a number divided one after the other, with the remainder kept.
-use Prim.Native.Nat.{ℕ, ◌+◌, ◌-◌, ◌*◌, ◌/◌, ◌%◌, ◌≤◌, ◌<◌}
-use mathlib.Core.Path.{◌≡◌, ap, sym, ◌∙◌}
+use Rattle.std.proofs.Common.{ℕ, ◌+◌, ◌-◌, ◌*◌, ◌/◌, ◌%◌, ◌≤◌, ◌<◌, ◌≡◌, ap, sym, ◌∙◌, div-add-mod', mod-lt, mul-le-mul, mul-le-mul_left}
+use Rattle.std.proofs.Common.{mul-le-mul_right, div-le_self, arith}
 use native.Mathlib.Decide.{dec_lt}
-use native.Mathlib.Nat.{div-add-mod', mod-lt, mul-le-mul, mul-le-mul_left, mul-le-mul_right, div-le_self}
-use native.Mathlib.Omega.{arith}
 use lib.Arith.{digits_div}
 
 -- k times y, divided by n.
 pub record Shared (y n k loss rest : ℕ) : Type 0 where
   pub sums : loss * n + rest ≡ k * y
   pub less : rest < n
-
-pub shared_none : (y n : ℕ) → 0 < n → Shared y n 0 0 0
-shared_none y n p = record { sums = omega arith; less = p }
 
 pub shared_is : {y n k loss rest : ℕ} → Shared y n k loss rest → loss ≡ k * y / n
 shared_is {y} {n} {k} {loss} s = sym (digits_div loss s.less) ∙ ap (λ z. z / n) s.sums
@@ -52,23 +47,10 @@ module _ {y n k loss rest : ℕ} (s : Shared y n k loss rest) (whole part more :
       small (yes h) = let two : 2 * n ≤ more * n = mul-le-mul_right n h in absurd (omega (arith, carried_most, part_less, s.less))
       small (no h) = omega arith
 
-  pub shared_more : Shared y n (k + 1) (loss + whole + more) (rest + part - more * n)
+  pub shared_more : Shared y n (k + 1) (loss + (whole + more)) (rest + part - more * n)
   shared_more =
       let left : rest + part - more * n ≡ (rest + part) % n = omega (arith, rest_is) in
       record {
         sums = omega (arith, rest_is, y_is, s.sums, left);
         less = omega (arith, left, mod-lt (rest + part) positive);
       }
-
--- ---- the carry itself
-
-pub carries : (rest n : ℕ) → n ≤ rest → rest < 2 * n → 1 ≡ rest / n
-carries rest n h q =
-    let e : 1 * n + (rest - n) ≡ rest = omega arith in
-    let l : rest - n < n = omega arith in
-    sym (digits_div 1 l) ∙ ap (λ z. z / n) e
-
-pub carries_none : (rest n : ℕ) → rest < n → 0 ≡ rest / n
-carries_none rest n h =
-    let e : 0 * n + rest ≡ rest = omega arith in
-    sym (digits_div 0 h) ∙ ap (λ z. z / n) e

@@ -15,35 +15,37 @@ use sheet::{Pool, Sheet};
 // M(k) of a tranche.
 pub fn loss_at(sheet: Sheet, numbers: &[u64], tranche: usize, count: usize) -> u64
     requires tranches_within { TranchesWithin (terms_in sheet numbers.now) }
-    requires tranche_le_tranches { (tranche ≤ sheet.pool.tranches) × (count ≤ sheet.pool.names) }
+    requires node_inside { (tranche ≤ sheet.pool.tranches) × (count ≤ sheet.pool.names) }
     ensures { result ≡ loss_of (terms_in sheet numbers.now) tranche count }
 {
     let loss = cash::pool_loss(sheet.pool.names, sheet.pool.recovery, count);
     if tranche < sheet.pool.tranches {
         let lower = sheet::number_at(sheet.attachments, numbers, tranche);
         let upper = sheet::number_at(sheet.attachments, numbers, tranche + 1);
-        return cash::tranche_loss(lower, upper, loss);
+        cash::tranche_loss(lower, upper, loss)
+    } else {
+        loss
     }
-    loss
 }
 
 // O(k) of a tranche.
 pub fn outstanding_at(pool: Pool, attachments: &[u64], tranche: usize, count: usize) -> u64
     requires tranches_within { TranchesWithin (bare pool attachments.now) }
-    requires tranche_le_tranches { (tranche ≤ pool.tranches) × (count ≤ pool.names) }
+    requires node_inside { (tranche ≤ pool.tranches) × (count ≤ pool.names) }
     ensures { result ≡ outstanding_of (bare pool attachments.now) tranche count }
 {
     let loss = cash::pool_loss(pool.names, pool.recovery, count);
     let recovered = cash::pool_recovery(pool.names, pool.recovery, count);
     if pool.tranches <= tranche {
-        return cash::index_outstanding(loss, recovered);
+        cash::index_outstanding(loss, recovered)
+    } else {
+        cash::tranche_outstanding(
+            attachments[tranche],
+            attachments[tranche + 1],
+            loss,
+            recovered,
+        )
     }
-    cash::tranche_outstanding(
-        attachments[tranche],
-        attachments[tranche + 1],
-        loss,
-        recovered,
-    )
 }
 
 // How often the divisor is in a remainder to which less than one more was added: 1 once it has reached it.
@@ -51,7 +53,7 @@ fn whole_in(rest: u64, divisor: u64) -> u64
     requires { (0 < divisor) × (rest < 2 * divisor) }
     ensures { result ≡ rest / divisor }
 {
-    if divisor <= rest { 1 } else { 0 }
+    u64::from(divisor <= rest)
 }
 
 // L(k) of every count. Each comes from the one before, with the remainder kept, which is quicker than a division each.
@@ -64,14 +66,12 @@ pub fn pool_losses(names: usize, recovery: u64, losses: &mut [u64])
     let part = (cash::UNITS - recovery) % divisor;
     let mut loss = 0;
     let mut rest = 0;
-    let mut k = 0;
-    while k <= names {
-        losses[k] = loss;
+    for at_count in losses.iter_mut() {
+        *at_count = loss;
         rest += part;
         let more = whole_in(rest, divisor);
-        loss = loss + whole + more;
+        loss += whole + more;
         rest -= more * divisor;
-        k += 1;
     }
 }
 
@@ -82,9 +82,10 @@ pub fn lower_of(pool: Pool, attachments: &[u64], tranche: usize) -> u64
     ensures { result ≡ lower_of (bare pool attachments.now) tranche }
 {
     if tranche < pool.tranches {
-        return attachments[tranche];
+        attachments[tranche]
+    } else {
+        0
     }
-    0
 }
 
 // The point up to which it loses. The index loses up to all that is not recovered.
@@ -94,7 +95,8 @@ pub fn upper_of(pool: Pool, attachments: &[u64], tranche: usize) -> u64
     ensures { result ≡ upper_of (bare pool attachments.now) tranche }
 {
     if tranche < pool.tranches {
-        return attachments[tranche + 1];
+        attachments[tranche + 1]
+    } else {
+        cash::UNITS - pool.recovery
     }
-    cash::UNITS - pool.recovery
 }

@@ -1,6 +1,5 @@
 -- The trial entries, by computation.
-use mathlib.Core.Path.{refl}
-use lib.Dec.{lit≤}
+use Rattle.std.proofs.Common.{refl, lit≤}
 use Rattle.cash.specs.Units.{B, half}
 use Rattle.cash.specs.Sums.{sum_to}
 use Rattle.cash.specs.Losses.{pool_loss, pool_recovery, tranche_loss, tranche_recovery, tranche_outstanding, index_outstanding, default_payment, premium_payment, elapsed_payment}

@@ -1,9 +1,7 @@
 -- Legs that pay together what another pays: their exact values add exactly, their rounded values within their distances.
-use Prim.Native.Nat.{ℕ, zero, suc, ◌+◌, ◌*◌, ◌^◌, ◌≤◌, ◌<◌}
+use Rattle.std.proofs.Common.{ℕ, zero, suc, ◌+◌, ◌*◌, ◌^◌, ◌≤◌, ◌<◌, ◌≡◌, refl, sym, ◌∙◌, ap, ap₂, List, [], ◌∷◌, arith}
 use native.Mathlib.Nat.{one-le-pow}
-use mathlib.Core.Path.{◌≡◌, refl, sym, ◌∙◌, ap, ap₂, fun_ext}
-use mathlib.Core.List.{List, [], ◌∷◌}
-use native.Mathlib.Omega.{arith}
+use mathlib.Core.Path.{fun_ext}
 use Rattle.cash.specs.Units.{B}
 use Rattle.cash.specs.Near.{Near}
 use Rattle.cash.specs.Sums.{sum_to}

@@ -1,8 +1,6 @@
 -- Ceilings of walked rows, from any row that keeps to its own.
-use Prim.Native.Nat.{ℕ, zero, suc, ◌+◌, ◌-◌, ◌*◌, ◌/◌, ◌≤◌, ◌<◌, zero-le}
-use native.Mathlib.Nat.{add-zero, mul-le-mul_right, sub-add_cancel}
-use mathlib.Core.Path.{◌≡◌, refl, sym, ◌∙◌, ap}
-use native.Mathlib.Omega.{arith}
+use Rattle.std.proofs.Common.{ℕ, zero, suc, ◌+◌, ◌-◌, ◌*◌, ◌/◌, ◌≤◌, ◌<◌, zero-le, add-zero, mul-le-mul_right, sub-add_cancel, ◌≡◌, refl, sym, ◌∙◌}
+use Rattle.std.proofs.Common.{ap, arith}
 use Rattle.cash.specs.Units.{B, half}
 use Rattle.cash.specs.Losses.{default_payment, premium_payment, elapsed_payment}
 use Rattle.cash.proofs.Losses.{premium_payment_most}

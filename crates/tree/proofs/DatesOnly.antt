@@ -1,8 +1,6 @@
 -- With all fractions 0 no default pays a premium.
-use Prim.Native.Nat.{ℕ, suc, ◌+◌, ◌-◌, ◌*◌}
-use mathlib.Core.Path.{◌≡◌, refl, ◌∙◌, ap, fun_ext}
-use native.Mathlib.Nat.{add-zero, zero-mul}
-use native.Mathlib.Omega.{arith}
+use Rattle.std.proofs.Common.{ℕ, suc, ◌+◌, ◌-◌, ◌*◌, ◌≡◌, refl, ◌∙◌, ap, add-zero, zero-mul, arith}
+use mathlib.Core.Path.{fun_ext}
 use Rattle.cash.specs.Units.{B, half}
 use Rattle.cash.specs.Losses.{elapsed_payment}
 use Rattle.sheet.specs.Terms.{Terms}

@@ -1,9 +1,5 @@
 -- How far the rounded rule may lie from the exact value, of any leg.
-use Prim.Native.Nat.{ℕ, zero, suc, ◌+◌, ◌*◌, ◌^◌, ◌≤◌, ◌<◌}
-use native.Mathlib.Nat.{pow-suc}
-use mathlib.Core.Path.{◌≡◌, refl, ◌∙◌, ap}
-use mathlib.Core.Logic.{◌⊎◌, inl, inr}
-use native.Mathlib.Omega.{arith}
+use Rattle.std.proofs.Common.{ℕ, zero, suc, ◌+◌, ◌*◌, ◌^◌, ◌≤◌, ◌<◌, pow-suc, ◌≡◌, refl, ◌∙◌, ap, ◌⊎◌, inl, inr, arith}
 use Rattle.cash.specs.Units.{B}
 use Rattle.cash.specs.Near.{Near}
 use Rattle.cash.proofs.Nearness.{near_add, near_times, near_as}

@@ -1,10 +1,10 @@
 -- The distribution of the default count: its total, and its errors against the exact probabilities.
-use Prim.Native.Nat.{ℕ, zero, suc, ◌+◌, ◌-◌, ◌*◌, ◌^◌, ◌≤◌, zero-le}
-use native.Mathlib.Nat.{mul-le-mul_left, mul-le-mul_right, mul-zero, add-zero, zero-add, mul-one, pow-suc, pow-zero, suc-add, add-suc, sub-le, sub-add_cancel}
-use mathlib.Core.Path.{◌≡◌, refl, sym, ◌∙◌, ap, ap₂, fun_ext}
-use mathlib.Core.Bool.{Bool, true, false, cond}
-use native.Mathlib.Omega.{arith}
-use lib.Dec.{eqb, eqb→eq, eqb-suc-suc, eqb-suc-zero, eqb-zero-suc, T}
+use Rattle.std.proofs.Common.{ℕ, zero, suc, ◌+◌, ◌-◌, ◌*◌, ◌^◌, ◌≤◌, zero-le, mul-le-mul_left, mul-le-mul_right, mul-zero, add-zero, zero-add}
+use Rattle.std.proofs.Common.{mul-one, pow-suc, suc-add, add-suc, sub-le, sub-add_cancel, ◌≡◌, refl, sym, ◌∙◌, ap, ap₂, Bool, true, false, cond}
+use Rattle.std.proofs.Common.{arith, eqb, eqb→eq, T}
+use native.Mathlib.Nat.{pow-zero}
+use mathlib.Core.Path.{fun_ext}
+use lib.Dec.{eqb-suc-suc, eqb-suc-zero, eqb-zero-suc}
 use Rattle.cash.specs.Units.{B, half}
 use Rattle.cash.specs.Near.{Near}
 use Rattle.cash.specs.Sums.{sum_to}

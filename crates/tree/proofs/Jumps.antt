@@ -1,7 +1,5 @@
 -- What one default more does to walked rows.
-use Prim.Native.Nat.{ℕ, zero, suc, ◌+◌, ◌*◌, ◌≤◌, ◌<◌}
-use native.Mathlib.Nat.{le_refl, le_trans, mul-le-mul_left}
-use native.Mathlib.Omega.{arith}
+use Rattle.std.proofs.Common.{ℕ, zero, suc, ◌+◌, ◌*◌, ◌≤◌, ◌<◌, le_refl, le_trans, mul-le-mul_left, arith}
 use Rattle.cash.specs.Units.{half}
 use Rattle.cash.specs.Losses.{default_payment, premium_payment}
 use Rattle.cash.proofs.Rounding.{half_rises}

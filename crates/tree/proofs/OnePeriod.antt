@@ -1,11 +1,5 @@
 -- One period changes nothing.
-use Prim.Native.Nat.{ℕ, pred, ◌+◌, ◌*◌}
-use mathlib.Core.Path.{◌≡◌, refl, ap, ◌∙◌}
-use mathlib.Core.Bool.{Bool, true, false, cond}
-use mathlib.Core.List.{List, [], ◌∷◌}
-use native.Mathlib.Nat.{zero-mul, zero-add}
-use lib.ListN.{get_or}
-use lib.Dec.{leb, ltb}
+use Rattle.std.proofs.Common.{ℕ, pred, ◌+◌, ◌*◌, ◌≡◌, refl, ap, ◌∙◌, Bool, true, false, cond, List, [], ◌∷◌, zero-mul, zero-add, get_or, leb, ltb}
 use Rattle.sheet.specs.Terms.{Terms}
 use Rattle.sheet.specs.Periods.{begun, period_of}
 use Rattle.tree.specs.Paths.{Tree}

@@ -1,13 +1,9 @@
 -- Laws of the sums over lists of moves: the first move, sums and multiples, the total chance, and the exact value by its first move.
-use Prim.Native.Nat.{ℕ, zero, suc, ◌+◌, ◌-◌, ◌*◌, ◌^◌, ◌≤◌, ◌<◌}
-use native.Mathlib.Nat.{mul_assoc, mul-add, add-mul, mul_left_comm, add-sub_of_le, mul-one, one-mul, pow-suc, pow-succ', pow-zero, zero-mul, mul-le-mul_left, eq-or-lt_of_le}
-use mathlib.Core.Path.{◌≡◌, refl, sym, ◌∙◌, ap, ap₂, fun_ext}
-use mathlib.Core.Bool.{Bool, true, false, ◌&&◌, cond}
-use mathlib.Core.List.{List, [], ◌∷◌, ◌++◌, map}
-use mathlib.Core.Logic.{◌⊎◌, inl, inr}
-use native.Mathlib.Omega.{arith}
-use lib.ListN.{length}
-use lib.Dec.{leb, T, le→leb}
+use Rattle.std.proofs.Common.{ℕ, zero, suc, ◌+◌, ◌-◌, ◌*◌, ◌^◌, ◌≤◌, ◌<◌, mul_assoc, mul-add, add-mul, mul_left_comm, add-sub_of_le, mul-one, one-mul}
+use Rattle.std.proofs.Common.{pow-suc, zero-mul, mul-le-mul_left, eq-or-lt_of_le, ◌≡◌, refl, sym, ◌∙◌, ap, ap₂, Bool, true, false, ◌&&◌, cond, List}
+use Rattle.std.proofs.Common.{[], ◌∷◌, ◌++◌, map, ◌⊎◌, inl, inr, arith, length, leb, T, le→leb}
+use native.Mathlib.Nat.{pow-succ', pow-zero}
+use mathlib.Core.Path.{fun_ext}
 use Rattle.cash.specs.Units.{B}
 use Rattle.tree.specs.Paths.{Move, survive, default, count_after, Cash, Tree, Fair, chance, all_moves, keeps, those, paths, weight, paid, total, path_sum, exact}
 

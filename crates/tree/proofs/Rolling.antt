@@ -1,8 +1,7 @@
 -- Laws of the rounded rule: one node, many steps.
-use Prim.Native.Nat.{ℕ, zero, suc, ◌+◌, ◌-◌, ◌*◌, ◌≤◌}
-use native.Mathlib.Nat.{mul-le-mul_left, mul-le-mul_right, le_trans, le_of_eq, zero-add, add-zero, suc-add, add-suc}
-use mathlib.Core.Path.{◌≡◌, refl, sym, ◌∙◌, ap, ap₂, subst, fun_ext}
-use native.Mathlib.Omega.{arith}
+use Rattle.std.proofs.Common.{ℕ, zero, suc, ◌+◌, ◌-◌, ◌*◌, ◌≤◌, mul-le-mul_left, mul-le-mul_right, le_trans, le_of_eq, zero-add, add-zero, suc-add}
+use Rattle.std.proofs.Common.{add-suc, ◌≡◌, refl, sym, ◌∙◌, ap, ap₂, subst, arith}
+use mathlib.Core.Path.{fun_ext}
 use Rattle.cash.specs.Units.{B, half}
 use Rattle.cash.specs.Near.{Near}
 use Rattle.cash.proofs.Nearness.{near_add, near_times, near_trans, near_as}

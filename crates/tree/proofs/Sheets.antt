@@ -1,13 +1,6 @@
 -- Facts of a sheet within limits: its tree, its losses, its legs, and the ceilings that its rows keep to.
-use Prim.Native.Nat.{ℕ, zero, suc, ◌+◌, ◌-◌, ◌*◌, ◌≤◌, ◌<◌, zero-le}
-use native.Mathlib.Nat.{le_refl, add-zero, suc-add, add-suc}
-use mathlib.Core.Path.{◌≡◌, refl, sym, ◌∙◌, ap, ap₂}
-use mathlib.Core.Bool.{Bool, true, false, cond}
-use mathlib.Core.List.{List, [], ◌∷◌}
-use native.Mathlib.Omega.{arith}
-use lib.ListN.{length, get_or, drop, drop_of_length-le}
-use lib.Dec.{ltb}
-use borrow.Author.Tests.{lt-ltb, le-ltb}
+use Rattle.std.proofs.Common.{ℕ, zero, suc, ◌+◌, ◌-◌, ◌*◌, ◌≤◌, ◌<◌, zero-le, le_refl, add-zero, suc-add, add-suc, ◌≡◌, refl, sym, ◌∙◌, ap, ap₂, Bool}
+use Rattle.std.proofs.Common.{true, false, cond, List, [], ◌∷◌, arith, length, get_or, drop, drop_of_length-le, ltb, lt-ltb, le-ltb}
 use Rattle.cash.specs.Units.{B}
 use Rattle.cash.specs.Sums.{sum_to}
 use Rattle.cash.specs.Losses.{tranche_loss, tranche_outstanding, index_outstanding}

@@ -1,8 +1,5 @@
 -- The statements of specs/Statements.antt, proved.
-use Prim.Native.Nat.{ℕ, suc, ◌*◌, ◌≤◌, zero-le}
-use native.Mathlib.Nat.{le_of_eq}
-use mathlib.Core.Path.{◌≡◌, refl, sym, ◌∙◌, ap, subst}
-use native.Mathlib.Omega.{arith}
+use Rattle.std.proofs.Common.{ℕ, suc, ◌*◌, ◌≤◌, zero-le, le_of_eq, ◌≡◌, refl, sym, ◌∙◌, ap, subst, arith}
 use Rattle.cash.proofs.Nearness.{near_as, near_halve}
 use Rattle.cash.proofs.Sums.{sum_times}
 use Rattle.tree.specs.Paths.{Tree, Fair}

@@ -2,7 +2,8 @@
 
 #![tactic(auto)]
 
-pub mod at; // at.rt: the numbers of a trial
+pub mod numbers; // numbers.rt: the numbers of a trial
+pub mod parts; // parts.rt: the first of a list
+pub mod place; // place.rt: the places of a trial's numbers, and their words
 pub mod print; // print.rt: numbers and answers
 pub mod registers; // registers.rt: registers that a trial lends
-pub mod words; // words.rt: the words of a trial's numbers

@@ -2,23 +2,19 @@
 
 #![tactic(auto)]
 
+use book::BookRefusal;
 use std::io;
-use trial::{print, registers};
+use trial::{parts, print};
 
 // The most that a net value W may be, one less and one more.
 const MOST: i64 = 200_000_000_000_000_000;
 
-const UNDER: i64 = 199_999_999_999_999_999;
+const UNDER: i64 = MOST - 1;
 
-const OVER: i64 = 200_000_000_000_000_001;
-
-// The ends of an `i64`.
-const GREATEST: i64 = 9_223_372_036_854_775_807;
-
-const LEAST: i64 = -9_223_372_036_854_775_808;
+const OVER: i64 = MOST + 1;
 
 // A position of a book.
-#[derive(Drop)]
+#[derive(Clone, Copy)]
 pub struct Position {
     pub nominal: i64,
     pub value: i64,
@@ -28,54 +24,27 @@ fn at(nominal: i64, value: i64) -> Position {
     Position { nominal, value }
 }
 
-// The first so many numbers.
-fn numbers(list: &[i64], length: usize) -> &[i64] {
-    if list.len() <= length {
-        return list;
-    }
-    &list[..length]
-}
-
-// A sum that stays far below its type's end.
-fn more(sum: u64, n: u64) -> u64 {
-    if 1_000_000_000 < sum {
-        return sum;
-    }
-    if 1_000_000_000 < n {
-        return sum;
-    }
-    sum + n
-}
-
-fn more_byte(sum: u64, byte: u8) -> u64 {
-    more(sum, byte as u64)
-}
-
-// Each byte times its place, counted from 1: from the last byte on, the sums of those behind.
+// Each byte times its place, counted from 1.
 fn weighed(out: &[u8]) -> u64 {
-    let mut behind = 0;
-    let mut sum = 0;
-    let mut left = out.len();
-    while 0 < left {
-        left -= 1;
-        behind = more_byte(behind, out[left]);
-        sum = more(sum, behind);
+    let mut sum: u64 = 0;
+    for (byte, place) in out.iter().zip(1..) {
+        sum = sum.saturating_add((*byte as u64).saturating_mul(place));
     }
     sum
 }
 
 // What the call answers, and its line.
-fn told(rt: &impl Print, report: book::Report, out: &[u8]) -> io::Result<()> {
-    let number = book::report_number(report);
-    print::answer(rt, b" answer", number)?;
-    if number == 0 {
-        let bytes = book::bytes_in(report);
-        print::text(rt, b" bytes")?;
-        print::count(rt, bytes as u64)?;
-        print::end(rt)?;
-        return print::text(rt, registers::bytes(out, bytes));
+fn told(rt: &impl Print, answer: Result<usize, BookRefusal>, out: &[u8]) -> io::Result<()> {
+    match answer {
+        Ok(bytes) => {
+            println!(rt; " answer 0 bytes {bytes}")?;
+            print::text(rt, parts::first(out, bytes))
+        }
+        Err(refusal) => {
+            print::answer(rt, b" answer", refusal.into())?;
+            print::end(rt)
+        }
     }
-    print::end(rt)
 }
 
 // A book on so many bytes FF, with so many nominals and values: one position first, and others alike.
@@ -87,27 +56,20 @@ fn book(
     first: Position,
     others: Position,
 ) -> io::Result<()> {
-    let nominal = first.nominal;
-    let value = first.value;
     let mut all_nominals = [others.nominal; 4097];
     let mut all_values = [others.value; 4097];
     let mut room = [0xFF; 97];
-    all_nominals[0] = nominal;
-    all_values[0] = value;
-    print::text(rt, b"book lent")?;
-    print::count(rt, lent as u64)?;
-    print::text(rt, b" positions")?;
-    print::count(rt, nominals as u64)?;
-    print::count(rt, values as u64)?;
-    let report = book::total(
-        numbers(&all_nominals, nominals),
-        numbers(&all_values, values),
-        registers::bytes_mut(&mut room, lent),
+    all_nominals[0] = first.nominal;
+    all_values[0] = first.value;
+    print!(rt; "book lent {lent} positions {nominals} {values}")?;
+    let answer = book::total(
+        parts::first(&all_nominals, nominals),
+        parts::first(&all_values, values),
+        parts::first_mut(&mut room, lent),
     );
-    told(rt, report, &room)?;
-    print::text(rt, b"left")?;
-    print::count(rt, weighed(registers::bytes(&room, lent)))?;
-    print::end(rt)
+    told(rt, answer, &room)?;
+    let left = weighed(parts::first(&room, lent));
+    println!(rt; "left {left}")
 }
 
 // Signs, and a line of 28 bytes.
@@ -209,10 +171,10 @@ pub fn ranges(rt: &impl Print) -> io::Result<()> {
     book(rt, 96, 1, 1, at(0, OVER), at(0, 0))?;
     book(rt, 96, 2, 2, at(1, 1), at(1_000_001, 0))?;
     book(rt, 96, 2, 2, at(1, 1), at(0, OVER))?;
-    book(rt, 96, 1, 1, at(LEAST, 1), at(0, 0))?;
-    book(rt, 96, 1, 1, at(1, LEAST), at(0, 0))?;
-    book(rt, 96, 1, 1, at(GREATEST, 1), at(0, 0))?;
-    book(rt, 96, 1, 1, at(1, GREATEST), at(0, 0))
+    book(rt, 96, 1, 1, at(i64::MIN, 1), at(0, 0))?;
+    book(rt, 96, 1, 1, at(1, i64::MIN), at(0, 0))?;
+    book(rt, 96, 1, 1, at(i64::MAX, 1), at(0, 0))?;
+    book(rt, 96, 1, 1, at(1, i64::MAX), at(0, 0))
 }
 
 // 2, also beside 28.

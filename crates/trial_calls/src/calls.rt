@@ -1,165 +1,103 @@
 // The calls on what a trial lends, each handing its walk to the next. They print the number that is answered, and the figures if it is 0.
 use sheet::Sheet;
 use std::io;
-use trial::at::Trial;
-use trial::{at, print};
+use trial::numbers::Trial;
+use trial::place::Place;
+use trial::print;
 use walk::Walk;
+
+// What a trial lends to the calls of a walk.
+#[derive(Drop)]
+pub struct Lent<'a> {
+    pub sheet: Sheet,
+    pub numbers: &'a [u64],
+    pub register: &'a [u8],
+    pub defaults: &'a mut [u64],
+    pub premiums: &'a mut [u64],
+}
 
 // The walk that a trial holds.
 fn held(trial: Trial) -> Walk {
     Walk {
-        open: trial[at::OPEN] == 1,
-        number: print::byte(trial[at::NUMBER]),
-        position: at::size(trial, at::POSITION),
+        open: trial.get(Place::Open) == 1,
+        number: print::byte(trial.get(Place::Number)),
+        position: trial.size(Place::Position),
     }
 }
 
-// The trial with the walk that a call handed back.
-fn holding(trial: Trial, walk: Walk) -> Trial {
-    let open = at::with(trial, at::OPEN, walk.open as u64);
-    let number = at::with(open, at::NUMBER, walk.number as u64);
-    at::with(number, at::POSITION, walk.position as u64)
-}
-
-fn ratio(
-    rt: &impl Print,
-    trial: Trial,
-    sheet: Sheet,
-    numbers: &[u64],
-    register: &[u8],
-    defaults: &[u64],
-    premiums: &[u64],
-) -> io::Result<()> {
-    let walk = held(trial);
-    let r = walk.hedge_ratio(
-        sheet,
-        numbers,
-        register,
-        defaults,
-        premiums,
-        at::size(trial, at::TRANCHE),
-        at::size(trial, at::COUNT),
+fn ratio(rt: &impl Print, trial: Trial, walk: Walk, lent: &Lent) -> io::Result<()> {
+    let reply = walk.hedge_ratio(
+        lent.sheet,
+        lent.numbers,
+        lent.register,
+        lent.defaults,
+        lent.premiums,
+        trial.size(Place::Tranche),
+        trial.size(Place::Count),
     );
-    let answer = r.answer;
-    print::hedged(rt, answer)
+    print::hedged(rt, reply.answer)
 }
 
-fn value(
-    rt: &impl Print,
-    trial: Trial,
-    sheet: Sheet,
-    numbers: &[u64],
-    register: &[u8],
-    defaults: &[u64],
-    premiums: &[u64],
-) -> io::Result<()> {
-    let walk = held(trial);
-    let r = walk.value(
-        sheet,
-        numbers,
-        register,
-        defaults,
-        premiums,
-        at::size(trial, at::TRANCHE),
-        at::size(trial, at::COUNT),
+fn value(rt: &impl Print, trial: Trial, walk: Walk, lent: &Lent) -> io::Result<Walk> {
+    let reply = walk.value(
+        lent.sheet,
+        lent.numbers,
+        lent.register,
+        lent.defaults,
+        lent.premiums,
+        trial.size(Place::Tranche),
+        trial.size(Place::Count),
     );
-    let answer = r.answer;
-    let left = r.walk;
-    print::valued(rt, answer)?;
-    ratio(
-        rt,
-        holding(trial, left),
-        sheet,
-        numbers,
-        register,
-        defaults,
-        premiums,
-    )
+    print::valued(rt, reply.answer)?;
+    Ok(reply.walk)
 }
 
-fn back(
-    rt: &impl Print,
-    trial: Trial,
-    sheet: Sheet,
-    numbers: &[u64],
-    register: &[u8],
-    defaults: &mut [u64],
-    premiums: &mut [u64],
-) -> io::Result<()> {
-    let walk = held(trial);
-    let r = walk.back(
-        sheet,
-        numbers,
-        register,
-        defaults,
-        premiums,
-        at::size(trial, at::BACK),
+fn back(rt: &impl Print, trial: Trial, walk: Walk, lent: &mut Lent) -> io::Result<Walk> {
+    let reply = walk.back(
+        lent.sheet,
+        lent.numbers,
+        lent.register,
+        lent.defaults,
+        lent.premiums,
+        trial.size(Place::Back),
     );
-    let answer = r.answer;
-    let left = r.walk;
-    print::moved(rt, answer)?;
-    value(
-        rt,
-        holding(trial, left),
-        sheet,
-        numbers,
-        register,
-        defaults,
-        premiums,
-    )
+    print::moved(rt, reply.answer)?;
+    Ok(reply.walk)
 }
 
-fn open(
-    rt: &impl Print,
-    trial: Trial,
-    sheet: Sheet,
-    numbers: &[u64],
-    register: &[u8],
-    defaults: &mut [u64],
-    premiums: &mut [u64],
-) -> io::Result<()> {
+fn open(rt: &impl Print, lent: &mut Lent) -> io::Result<Walk> {
     let walk = Walk::fresh();
-    let r = walk.open(sheet, numbers, register, defaults, premiums);
-    let answer = r.answer;
-    let left = r.walk;
-    print::done(rt, b" open", answer)?;
-    back(
-        rt,
-        holding(trial, left),
-        sheet,
-        numbers,
-        register,
-        defaults,
-        premiums,
-    )
+    let reply = walk.open(
+        lent.sheet,
+        lent.numbers,
+        lent.register,
+        lent.defaults,
+        lent.premiums,
+    );
+    print::opened(rt, reply.answer)?;
+    Ok(reply.walk)
 }
 
 // Open unless the walk is made up, back, value and ratio.
-pub fn walk(
-    rt: &impl Print,
-    trial: Trial,
-    sheet: Sheet,
-    numbers: &[u64],
-    register: &[u8],
-    defaults: &mut [u64],
-    premiums: &mut [u64],
-) -> io::Result<()> {
-    if trial[at::MADE_UP] == 1 {
-        back(rt, trial, sheet, numbers, register, defaults, premiums)
+pub fn walk(rt: &impl Print, trial: Trial, lent: &mut Lent) -> io::Result<()> {
+    let first = if trial.get(Place::MadeUp) == 1 {
+        held(trial)
     } else {
-        open(rt, trial, sheet, numbers, register, defaults, premiums)
-    }
+        open(rt, lent)?
+    };
+    let moved = back(rt, trial, first, lent)?;
+    let valued = value(rt, trial, moved, lent)?;
+    ratio(rt, trial, valued, lent)
 }
 
 // Forward, with Q(0), Q(1) and the last of the row.
-pub fn forward(
-    rt: &impl Print,
-    trial: Trial,
-    sheet: Sheet,
-    numbers: &[u64],
-    register: &[u8],
-    row: &mut [u64],
-) -> io::Result<()> {
-    let answer = walk::forward(sheet, numbers, register, row, at::size(trial, at::FORWARD));
+pub fn forward(rt: &impl Print, trial: Trial, lent: &Lent, row: &mut [u64]) -> io::Result<()> {
+    let answer = walk::forward(
+        lent.sheet,
+        lent.numbers,
+        lent.register,
+        row,
+        trial.size(Place::Forward),
+    );
     print::distribution(rt, answer, row)
 }

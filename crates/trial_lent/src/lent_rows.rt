@@ -1,62 +1,52 @@
 // The rows that a trial lends.
-use trial::at;
-use trial::at::Trial;
+use trial::numbers::Trial;
+use trial::place::Place;
 
-// Room for a row, by the places of its entries in the trial. Four entries are a tranche's, for the counts 0 to 3; the index comes third.
-fn row(
-    trial: Trial,
-    own: usize,
-    next: usize,
-    second: usize,
-    index: usize,
-    index_next: usize,
-    last: usize,
-    others: usize,
-) -> [u64; 400] {
-    let middle = at::read(trial, second);
-    let mut row = [at::read(trial, others); 400];
-    row[0] = at::read(trial, own);
-    row[1] = at::read(trial, next);
-    row[4] = middle;
-    row[5] = middle;
-    row[6] = middle;
-    row[7] = middle;
-    row[8] = at::read(trial, index);
-    row[9] = at::read(trial, index_next);
-    row[11] = at::read(trial, last);
+// The entries of a row that a trial tells. Four are a tranche's, for the counts 0 to 3; the index comes third.
+#[derive(Clone, Copy)]
+struct Told {
+    own: u64,
+    own_next: u64,
+    second: u64,
+    index: u64,
+    index_next: u64,
+    last: u64,
+    others: u64,
+}
+
+// Room for a row, and its entries.
+fn row(told: Told) -> [u64; 400] {
+    let mut row = [told.others; 400];
+    row[0] = told.own;
+    row[1] = told.own_next;
+    row[4..8].fill(told.second);
+    row[8] = told.index;
+    row[9] = told.index_next;
+    row[11] = told.last;
     row
 }
 
 pub fn default_row(trial: Trial) -> [u64; 400] {
-    row(
-        trial,
-        at::OWN_DEFAULT,
-        at::OWN_NEXT_DEFAULT,
-        at::OTHER_DEFAULTS,
-        at::INDEX_DEFAULT,
-        at::INDEX_NEXT_DEFAULT,
-        at::LAST_DEFAULT,
-        at::NOTHING,
-    )
+    row(Told {
+        own: trial.get(Place::OwnDefault),
+        own_next: trial.get(Place::OwnNextDefault),
+        second: trial.get(Place::OtherDefaults),
+        index: trial.get(Place::IndexDefault),
+        index_next: trial.get(Place::IndexNextDefault),
+        last: trial.get(Place::LastDefault),
+        others: 0,
+    })
 }
 
 pub fn premium_row(trial: Trial) -> [u64; 400] {
-    row(
-        trial,
-        at::OWN_PREMIUM,
-        at::OWN_NEXT_PREMIUM,
-        at::OTHER_PREMIUMS,
-        at::INDEX_PREMIUM,
-        at::INDEX_NEXT_PREMIUM,
-        at::LAST_PREMIUM,
-        at::OTHER_PREMIUMS,
-    )
-}
-
-// The first so many numbers of a row, to be written.
-pub fn part_mut(list: &mut [u64], length: usize) -> &mut [u64] {
-    if list.len() <= length {
-        return list;
-    }
-    &mut list[..length]
+    let others = trial.get(Place::OtherPremiums);
+    row(Told {
+        own: trial.get(Place::OwnPremium),
+        own_next: trial.get(Place::OwnNextPremium),
+        second: others,
+        index: trial.get(Place::IndexPremium),
+        index_next: trial.get(Place::IndexNextPremium),
+        last: trial.get(Place::LastPremium),
+        others,
+    })
 }

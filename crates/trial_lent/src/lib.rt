@@ -5,4 +5,4 @@
 pub mod lengths; // lengths.rt: the lengths of what it lends
 pub mod lent_rows; // lent_rows.rt: rows
 pub mod sheet_lists; // sheet_lists.rt: the numbers of a sheet's lists
-pub mod spans; // spans.rt: a sheet's figures, and where its lists stand
+pub mod spans; // spans.rt: its sheet

@@ -3,37 +3,28 @@
 #![tactic(auto)]
 
 use std::io;
-use trial::{print, registers};
-
-fn bytes(rt: &impl Print, image: &[u8]) -> io::Result<()> {
-    for i in 0..image.len() {
-        print::small(rt, image[i])?;
-    }
-    Ok(())
-}
+use trial::{parts, print};
 
 fn read(rt: &impl Print, image: &[u8]) -> io::Result<()> {
-    let reading = packed::read(image);
-    let number = packed::reading_number(reading);
-    print::text(rt, b"packed")?;
-    bytes(rt, image)?;
-    print::answer(rt, b" read", number)?;
-    if number == 0 {
-        print::count(rt, packed::coupon_in(reading))?;
+    print!(rt; "packed")?;
+    print::counts(rt, image)?;
+    match packed::read(image) {
+        Ok(coupon) => println!(rt; " read 0 {coupon}"),
+        Err(refusal) => {
+            print::answer(rt, b" read", refusal.into())?;
+            print::end(rt)
+        }
     }
-    print::end(rt)
 }
 
 // Over so many bytes FF, five at most.
 fn write(rt: &impl Print, coupon: u64, length: usize) -> io::Result<()> {
     let mut image = [0xFF; 5];
-    let written = packed::write(registers::bytes_mut(&mut image, length), coupon);
-    print::text(rt, b"coupon")?;
-    print::count(rt, coupon)?;
-    print::text(rt, b" lent")?;
-    print::count(rt, length as u64)?;
-    print::answer(rt, b" write", packed::writing_number(written))?;
-    bytes(rt, registers::bytes(&image, length))?;
+    let written = packed::write(parts::first_mut(&mut image, length), coupon);
+    let number = written.err().map_or(0, u8::from);
+    print!(rt; "coupon {coupon} lent {length}")?;
+    print::answer(rt, b" write", number)?;
+    print::counts(rt, parts::first(&image, length))?;
     print::end(rt)
 }
 
@@ -62,13 +53,18 @@ pub fn readings(rt: &impl Print) -> io::Result<()> {
 
 // 2 and 8.
 pub fn writings(rt: &impl Print) -> io::Result<()> {
-    write(rt, 0, 4)?;
-    write(rt, 1, 4)?;
-    write(rt, 1_234_567, 4)?;
-    write(rt, 9_999_999, 4)?;
-    write(rt, 10_000_000, 4)?;
-    write(rt, 10_000_001, 4)?;
-    write(rt, 0xFFFF_FFFF_FFFF_FFFF, 4)?;
+    let lent_four = [
+        0,
+        1,
+        1_234_567,
+        9_999_999,
+        10_000_000,
+        10_000_001,
+        0xFFFF_FFFF_FFFF_FFFF,
+    ];
+    for coupon in lent_four {
+        write(rt, coupon, 4)?;
+    }
     write(rt, 1, 3)?;
     write(rt, 1, 5)?;
     write(rt, 10_000_001, 3)?;

@@ -1,14 +1,10 @@
 -- Steps left that are copied out of a table, served and copied in again: what this comes to.
-use mathlib.Core.Path.{◌≡◌, refl, sym, ap, ◌∙◌}
-use mathlib.Core.Bool.{Bool, true, false, cond}
-use mathlib.Core.List.{List, [], ◌∷◌, ◌++◌}
-use Prim.Native.Nat.{ℕ, zero, suc, ◌<◌, ◌≤◌}
-use native.Mathlib.Omega.{arith}
-use lib.Dec.{ltb}
-use lib.ListN.{length, get_or, take, drop, length-set, length-append}
-use lib.Seq.{take-suc, take-suc-set, take-length, take_at}
-use borrow.Author.Tests.{le-ltb, ltb-true, ltb-false}
-use Rattle.places.specs.declared.Turned.{Turned}
+use lib.Seq.{take-length}
+use Rattle.std.proofs.Common.{◌≡◌, refl, sym, ap, ◌∙◌, Bool, true, false, cond, List, [], ◌∷◌, ◌++◌, ℕ, zero, suc, ◌<◌, ◌≤◌, arith, ltb, length}
+use Rattle.std.proofs.Common.{get_or, take, drop, length-set, length-append, take-suc, take-suc-set, take_at, le-ltb, ltb-true, ltb-false, Result}
+use Rattle.std.proofs.Common.{Err}
+use Rattle.places.specs.declared.Served.{Served}
+use Rattle.places.specs.declared.NotTaken.{NotTaken}
 use Rattle.places.specs.Places.{taken, Outcome, as_lent, served, among_first, served_first, shown_of, stored_of}
 use Rattle.places.proofs.Laws.{taken_long}
 use Rattle.places.proofs.Partway.{Says, served_refused, served_taken, first_long, first_short, served_length}
@@ -70,7 +66,7 @@ with_own (t ∷ table) = ap (λ (y : List Turn). t ∷ y) (with_own table)
 
 -- ---- copied out, served, and copied in again unless the call was refused
 
-abbrev Turns : List Turn → ℕ → List ℕ → Turned → List Turn → List ℕ → Type 0
+abbrev Turns : List Turn → ℕ → List ℕ → Result Served NotTaken → List Turn → List ℕ → Type 0
 Turns table place list r after list₂ =
     (r ≡ (turned table place list).answer) × ((after ≡ (turned table place list).table) × (list₂ ≡ (turned table place list).list))
 
@@ -81,19 +77,19 @@ module _ (table : List Turn) (place : ℕ) (list : List ℕ) where
   abbrev o : Outcome
   o = served (steps_of table) place list
 
-  refused : (left₂ : List ℕ) (k c : ℕ) (r : Turned) (after : List Turn) → o ≡ as_lent (steps_of table) list → r ≡ Turned.Turns →
+  refused : (left₂ : List ℕ) (k c : ℕ) (r : Result Served NotTaken) (after : List Turn) → o ≡ as_lent (steps_of table) list → r ≡ Err (record {}) →
       c ≡ stored_of r k → after ≡ copied_in table left₂ c → (r ≡ o.answer) × (after ≡ with_steps table o.left)
   refused left₂ k c r after e er ec et =
-      let none : c ≡ 0 = ec ∙ ap (λ (x : Turned). stored_of x k) er in (
+      let none : c ≡ 0 = ec ∙ ap (λ (x : Result Served NotTaken). stored_of x k) er in (
         er ∙ sym (ap (λ (x : Outcome). x.answer) e),
         et ∙ ap (λ (x : ℕ). copied_in table left₂ x) none ∙ sym (ap (λ (x : Outcome). with_steps table x.left) e ∙ with_own table),
       )
 
-  accepted : (left₁ left₂ : List ℕ) (c : ℕ) (r : Turned) (after : List Turn) → taken (steps_of table) place (length list) ≡ true →
+  accepted : (left₁ left₂ : List ℕ) (c : ℕ) (r : Result Served NotTaken) (after : List Turn) → taken (steps_of table) place (length list) ≡ true →
       n ≤ length left₂ → left₂ ≡ o.left ++ drop n left₁ → r ≡ o.answer → c ≡ stored_of r n → after ≡ copied_in table left₂ c →
       after ≡ with_steps table o.left
   accepted left₁ left₂ c r after t room el er ec et =
-      let all : c ≡ n = ec ∙ ap (λ (x : Turned). stored_of x n) (er ∙ ap (λ (x : Outcome). x.answer) (served_taken (steps_of table) place list t)) in
+      let all : c ≡ n = ec ∙ ap (λ (x : Result Served NotTaken). stored_of x n) (er ∙ ap (λ (x : Outcome). x.answer) (served_taken (steps_of table) place list t)) in
       let long : length o.left ≡ n = served_length (steps_of table) place list ∙ length_steps table in
       et ∙ ap (copied_in table left₂) all ∙ in_first table left₂ n (omega arith) room
       ∙ ap (with_steps table) (ap (take n) el ∙ take_at o.left (drop n left₁) n long)
@@ -103,7 +99,7 @@ module _ (table : List Turn) (place : ℕ) (list : List ℕ) where
       let many : 16 < length (steps_of table) = rw (length_steps table) h in
       sym (taken_long (steps_of table) place (length list) (omega arith) many)
 
-  module _ (left left₁ left₂ list₂ : List ℕ) (k c : ℕ) (r : Turned) (after : List Turn) (sixteen : length left ≡ 16)
+  module _ (left left₁ left₂ list₂ : List ℕ) (k c : ℕ) (r : Result Served NotTaken) (after : List Turn) (sixteen : length left ≡ 16)
       (ek : k ≡ shown_of n) (e₁ : left₁ ≡ copied_out table left k) (e₂ : Says (served_first left₁ n place list) r left₂ list₂)
       (ec : c ≡ stored_of r k) (et : after ≡ copied_in table left₂ c) where
     long : 16 < n → Turns table place list r after list₂
@@ -149,7 +145,7 @@ module _ (table : List Turn) (place : ℕ) (list : List ℕ) where
     bridge_at true e = long (ltb-true 16 n e)
     bridge_at false e = few (ltb-false 16 n e)
 
-pub bridge : (table : List Turn) (left left₁ left₂ list list₂ : List ℕ) (place k c : ℕ) (r : Turned) (after : List Turn) → length left ≡ 16 →
+pub bridge : (table : List Turn) (left left₁ left₂ list list₂ : List ℕ) (place k c : ℕ) (r : Result Served NotTaken) (after : List Turn) → length left ≡ 16 →
     k ≡ shown_of (length table) → left₁ ≡ copied_out table left k → Says (served_first left₁ (length table) place list) r left₂ list₂ →
     c ≡ stored_of r k → after ≡ copied_in table left₂ c →
     (r ≡ (turned table place list).answer) × ((after ≡ (turned table place list).table) × (list₂ ≡ (turned table place list).list))

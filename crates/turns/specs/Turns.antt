@@ -1,12 +1,13 @@
 -- A call for turns on a table of walk records: what it answers and leaves.
-use Rattle.std.specs.Prelude.{List, ℕ}
-use Rattle.places.specs.declared.Turned.{Turned}
+use Rattle.std.specs.Prelude.{List, ℕ, Result}
+use Rattle.places.specs.declared.Served.{Served}
+use Rattle.places.specs.declared.NotTaken.{NotTaken}
 use Rattle.places.specs.Places.{Outcome, served}
 use Rattle.turns.specs.declared.Turn.{Turn}
 use Rattle.turns.specs.Table.{steps_of, with_steps}
 
 pub record Leaves : Type 0 where
-  pub answer : Turned
+  pub answer : Result Served NotTaken
   pub table : List Turn
   pub list : List ℕ
 

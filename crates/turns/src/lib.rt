@@ -7,7 +7,7 @@ ghost use Rattle.std.specs.Prelude.{◌≡◌, ◌≤◌, length};
 ghost use Rattle.turns.specs.Table.{copied_out, copied_in};
 ghost use Rattle.turns.specs.Turns.{turned};
 
-use places::Turned;
+use places::{NotTaken, Served};
 use walk::Walk;
 
 // A walk of the table, and its steps left.
@@ -19,31 +19,32 @@ pub struct Turn {
 }
 
 // The steps left of the first walks, copied out.
-fn copy_out(table: &mut [Turn], left: &mut [u16], count: usize)
-    requires { (count ≤ length table.old) × (count ≤ length left.old) }
-    ensures { (table.new ≡ table.old) × (left.new ≡ copied_out table.old left.old count) }
+fn copy_out(table: &[Turn], left: &mut [u16], count: usize)
+    requires { (count ≤ length table.now) × (count ≤ length left.old) }
+    ensures { left.new ≡ copied_out table.now left.old count }
 {
-    let mut i = 0;
-    while i < count {
+    for i in 0..count {
         left[i] = table[i].left;
-        i += 1;
     }
 }
 
 // The steps left of the first walks, copied in.
-fn copy_in(table: &mut [Turn], left: &mut [u16], count: usize)
-    requires { (count ≤ length table.old) × (count ≤ length left.old) }
-    ensures { table.new ≡ copied_in table.old left.old count }
+fn copy_in(table: &mut [Turn], left: &[u16], count: usize)
+    requires { (count ≤ length table.old) × (count ≤ length left.now) }
+    ensures { table.new ≡ copied_in table.old left.now count }
 {
-    let mut at = 0;
-    while at < count {
+    for at in 0..count {
         table[at].left = left[at];
-        at += 1;
     }
 }
 
 // Turns of a table, with room for its steps left: these are copied out, served, and copied in again unless the call was refused.
-fn serve_with(table: &mut [Turn], left: &mut [u16], place: usize, list: &mut [u8]) -> Turned
+fn serve_with(
+    table: &mut [Turn],
+    left: &mut [u16],
+    place: usize,
+    list: &mut [u8],
+) -> Result<Served, NotTaken>
     requires { length left.old ≡ 16 }
     ensures { (result ≡ (turned table.old place list.old).answer)
         × ((table.new ≡ (turned table.old place list.old).table)
@@ -51,15 +52,15 @@ fn serve_with(table: &mut [Turn], left: &mut [u16], place: usize, list: &mut [u8
 {
     let n = table.len();
     let shown = places::shown(n);
-    copy_out(&mut *table, &mut *left, shown);
-    let answer = places::serve_first(&mut *left, n, place, list);
+    copy_out(table, left, shown);
+    let answer = places::serve_first(left, n, place, list);
     let stored = places::stored(answer, shown);
     copy_in(table, left, stored);
     answer
 }
 
 // A call for turns.
-pub fn serve(table: &mut [Turn], place: usize, list: &mut [u8]) -> Turned
+pub fn serve(table: &mut [Turn], place: usize, list: &mut [u8]) -> Result<Served, NotTaken>
     ensures { (result ≡ (turned table.old place list.old).answer)
         × ((table.new ≡ (turned table.old place list.old).table)
         × (list.new ≡ (turned table.old place list.old).list)) }

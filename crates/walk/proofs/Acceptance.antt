@@ -1,12 +1,6 @@
 -- When a call is accepted, of any outcome that keeps its rule; and that a withdrawn number is refused early.
-use Prim.Native.Nat.{ℕ, ◌*◌, ◌≤◌, ◌<◌}
-use mathlib.Core.Path.{◌≡◌, refl}
-use mathlib.Core.Bool.{true}
-use mathlib.Core.List.{List, [], ◌∷◌}
+use Rattle.std.proofs.Common.{ℕ, ◌*◌, ◌≤◌, ◌<◌, ◌≡◌, refl, true, List, [], ◌∷◌, ◌↔◌, ◌⊎◌, inl, inr, length, nat_abs}
 use mathlib.Core.Logic.Iff
-use mathlib.Core.Logic.{◌↔◌, ◌⊎◌, inl, inr}
-use lib.ListN.{length}
-use lib.IntN.{nat_abs}
 use Rattle.register.specs.Rules.{Unissued, Live}
 use Rattle.sheet.specs.Brought.{Brought}
 use Rattle.sheet.specs.Limits.{PoolInside, RecoveryInside, AttachmentsRise, StartsRise, HazardsInside, DiscountsInside, AccrualsInside, ElapsedInside, CouponsInside}

@@ -1,12 +1,5 @@
 -- Demand 3, of every list of calls: what is found of the last walk, and what a withdrawn number shows.
-use Prim.Native.Nat.{ℕ, ◌+◌, ◌-◌, ◌*◌, ◌^◌, ◌≤◌}
-use mathlib.Core.Path.{◌≡◌, refl, sym, ◌∙◌, ap, subst, subst₂}
-use mathlib.Core.Bool.{true}
-use mathlib.Core.List.{[], ◌∷◌}
-use native.Mathlib.Omega.{arith}
-use native.Mathlib.Nat.{le_refl}
-use lib.ListN.{get_or}
-use lib.IntN.{pos}
+use Rattle.std.proofs.Common.{ℕ, ◌+◌, ◌-◌, ◌*◌, ◌^◌, ◌≤◌, ◌≡◌, refl, sym, ◌∙◌, ap, subst, subst₂, true, [], ◌∷◌, arith, le_refl, get_or, pos}
 use Rattle.cash.specs.Units.{B}
 use Rattle.hedges.specs.Hedges.{net_value}
 use Rattle.cash.proofs.Nearness.{near_as}

@@ -1,10 +1,6 @@
 -- All fractions 0 change no rule, and no call on rows that both ceilings tell alike.
-use Prim.Native.Nat.{ℕ, zero, suc, pred, ◌+◌, ◌-◌, ◌*◌}
-use mathlib.Core.Path.{◌≡◌, refl, ap, ◌∙◌, fun_ext}
-use mathlib.Core.Bool.{Bool, true, false}
-use mathlib.Core.List.{List}
-use native.Mathlib.Nat.{add-zero, zero-mul}
-use lib.ListN.{get_or, replicate}
+use Rattle.std.proofs.Common.{ℕ, zero, suc, pred, ◌+◌, ◌-◌, ◌*◌, ◌≡◌, refl, ap, ◌∙◌, Bool, true, false, List, add-zero, zero-mul, get_or, replicate}
+use mathlib.Core.Path.{fun_ext}
 use Rattle.cash.specs.Units.{B, half}
 use Rattle.sheet.specs.Terms.{Terms}
 use Rattle.sheet.specs.Brought.{Brought}

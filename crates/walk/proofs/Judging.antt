@@ -1,15 +1,11 @@
 -- Tests that stand for an order of rules, and what it is to be judged by one.
-use Prim.Native.Nat.{ℕ}
-use mathlib.Core.Path.{◌≡◌, refl, sym, ◌∙◌, ap}
-use mathlib.Core.Bool.{Bool, true, false, not, ◌&&◌, ◌||◌, true≢false, false≢true}
-use mathlib.Core.List.{List, [], ◌∷◌, ◌++◌}
-use mathlib.Core.Logic.{◌↔◌, ◌⊎◌, inl, inr}
-use lib.Dec.{eqb}
-use borrow.Author.Tests.{eq-eqb, not-true}
-use Rattle.register.proofs.Masks.{both}
+use Rattle.std.proofs.Common.{ℕ, ◌≡◌, refl, sym, ◌∙◌, ap, Bool, true, false, not, ◌&&◌, ◌||◌, true≢false, List, [], ◌∷◌, ◌++◌, ◌↔◌, ◌⊎◌, inl, inr}
+use Rattle.std.proofs.Common.{eqb, eq-eqb, Ok, Err}
+use mathlib.Core.Bool.{false≢true}
+use borrow.Author.Tests.{not-true}
+use Rattle.std.proofs.lemmas.Bool.{and_parts as both}
 use Rattle.refusals.specs.declared.Refusal.{Refusal}
 use Rattle.refusals.specs.declared.Refusal.TheVariants.{Pool, Length, Recovery, Attachments, Hazard, Discount, Accrual, Coupon, Withdrawn, Unissued, NoWalk, OverCeiling, OutOfSteps, OffTree, FlatHedge, OffScale, Elapsed, Periods}
-use Rattle.refusals.specs.declared.Found.TheVariants.{Fine, Refused}
 use Rattle.refusals.specs.Refusals.{refusal_number}
 use Rattle.refusals.specs.Tests.{Test, first}
 use Rattle.refusals.proofs.FirstTest.{first_none, first_met, first_passed, first_fine}
@@ -149,7 +145,7 @@ Stands (t ∷ l) [] = ⊥
 Stands (t ∷ l) (r ∷ m) = ((t.0 ≡ false) ↔ r.0) × (refusal_number t.1 ≡ r.1) × (r.0 → Stands l m)
 
 -- They find nothing just where every rule holds.
-pub stands_fine : (l : List Test) (m : RefusalOrder) → Stands l m → (first l ≡ Fine) ↔ Holds m
+pub stands_fine : (l : List Test) (m : RefusalOrder) → Stands l m → (first l ≡ Ok tt) ↔ Holds m
 stands_fine [] [] s = (λ e. tt, λ h. first_none)
 stands_fine [] (r ∷ m) s = absurd s
 stands_fine (t ∷ l) [] s = absurd s
@@ -160,8 +156,8 @@ stands_fine (t ∷ l) (r ∷ m) s =
     )
 
 -- An answer that follows the first test met is judged by the order.
-pub stands_judges : (l : List Test) (m : RefusalOrder) (a : Said) → Stands l m → (first l ≡ Fine → a.number ≡ 0)
-    → ((f : Refusal) → first l ≡ Refused f → a ≡ refusal (refusal_number f)) → Judges m a
+pub stands_judges : (l : List Test) (m : RefusalOrder) (a : Said) → Stands l m → (first l ≡ Ok tt → a.number ≡ 0)
+    → ((f : Refusal) → first l ≡ Err f → a ≡ refusal (refusal_number f)) → Judges m a
 unfolding Judges
 stands_judges [] [] a s fine refused = fine first_none
 stands_judges [] (r ∷ m) a s fine refused = absurd s
@@ -169,7 +165,7 @@ stands_judges (t ∷ l) [] a s fine refused = absurd s
 stands_judges (t ∷ l) (r ∷ m) a s fine refused = go (either t.0) (λ k. stands_judges l m a (s.2 k))
   where
     go : (t.0 ≡ true) ⊎ (t.0 ≡ false)
-        → (r.0 → (first l ≡ Fine → a.number ≡ 0) → ((f : Refusal) → first l ≡ Refused f → a ≡ refusal (refusal_number f)) → Judges m a)
+        → (r.0 → (first l ≡ Ok tt → a.number ≡ 0) → ((f : Refusal) → first l ≡ Err f → a ≡ refusal (refusal_number f)) → Judges m a)
         → ((¬ r.0) × (a ≡ refusal r.1)) ⊎ (r.0 × Judges m a)
     go (inl e) rest =
         inl (λ k. true≢false (sym e ∙ s.0.1 k), refused t.1 (first_met t.0 t.1 l e) ∙ ap refusal s.1)

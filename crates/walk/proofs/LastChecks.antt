@@ -1,14 +1,9 @@
 -- What is known of a call that passed the first checks of its order, and what it leaves by its last ones.
-use Prim.Native.Nat.{ℕ, suc, ◌-◌, ◌*◌, ◌≤◌, ◌<◌}
-use mathlib.Core.Path.{◌≡◌, refl, sym, ◌∙◌, ap}
-use mathlib.Core.Bool.{Bool, true, false, ◌||◌, cond}
-use mathlib.Core.List.{List, [], ◌∷◌}
-use native.Mathlib.Omega.{arith}
-use borrow.Author.Tests.{lt-ltb, le-ltb, lt-leb}
-use lib.Dec.{leb, ltb, eqb}
-use lib.IntN.{ℤ, nat_abs}
-use lib.ListN.{length, get_or}
-use Rattle.hedges.specs.declared.Hedge.TheVariants as Hedge
+use Rattle.std.proofs.Common.{ℕ, suc, ◌-◌, ◌*◌, ◌≤◌, ◌<◌, ◌≡◌, refl, sym, ◌∙◌, ap, Bool, true, false, ◌||◌, cond, List, [], ◌∷◌, arith, lt-ltb}
+use Rattle.std.proofs.Common.{le-ltb, leb, ltb, eqb, ℤ, nat_abs, length, get_or, Ok, Err}
+use borrow.Author.Tests.{lt-leb}
+use Rattle.std.specs.declared.result.Result.TheVariants.{Ok, Err}
+use Rattle.hedges.specs.declared.NoRatio.TheVariants as NoRatio
 use Rattle.hedges.specs.Hedges.{ratio_of, hedge_of}
 use Rattle.tree.specs.Sheet.{default_of, premium_of, default_most}
 use Rattle.rows.specs.Tables.{tab, grid}
@@ -21,11 +16,10 @@ use Rattle.sheet.specs.Brought.{Brought}
 use Rattle.sheet.specs.Limits.{TranchesWithin}
 use Rattle.sheet.proofs.Limits.{limits_terms}
 use Rattle.refusals.specs.declared.Refusal.{Refusal}
-use Rattle.refusals.specs.declared.Found.TheVariants.{Fine, Refused}
 use Rattle.refusals.specs.Tests.{first, pool_bad}
 use Rattle.refusals.proofs.FirstTest.{first_none, first_met, first_passed}
 use Rattle.walk.specs.declared.Walk.{Walk}
-use Rattle.figures.specs.declared.Answer.TheVariants as Answer
+use Rattle.figures.specs.Answer as Answer
 use Rattle.rows.specs.Rows as Lent
 use Rattle.figures.specs.Nodes.{jump, Readable}
 use Rattle.admission.specs.LentTests.{ten_tests, rows_bad, row_bad}
@@ -52,13 +46,13 @@ module _ (x : Brought) (g : List ℕ) (w : Walk) (l : Lent.Rows) (lent : Bool) (
   unfolding open_tests
   open_on = sym (ten_alike x g lent (rows_bad x g l) [] same)
 
-  pub opening : first (ten_tests x g lent []) ≡ Fine → Opening x g l
+  pub opening : first (ten_tests x g lent []) ≡ Ok tt → Opening x g l
   opening e = (open_holds x g l).0 ((stands_fine _ _ (open_stands x g l)).0 (open_on ∙ e))
 
-  pub open_not : {f : Refusal} → first (ten_tests x g lent []) ≡ Refused f → not_done f w l ≡ open_call x g w l
+  pub open_not : {f : Refusal} → first (ten_tests x g lent []) ≡ Err f → not_done f w l ≡ open_call x g w l
   open_not e = sym (open_refused x g w l _ (open_on ∙ e))
 
-  pub open_done : first (ten_tests x g lent []) ≡ Fine → (ds ps : List ℕ) → ds ≡ tab (length l.defaults) (λ i. 0) → ps ≡ tab (length l.premiums) (λ i. 0) →
+  pub open_done : first (ten_tests x g lent []) ≡ Ok tt → (ds ps : List ℕ) → ds ≡ tab (length l.defaults) (λ i. 0) → ps ≡ tab (length l.premiums) (λ i. 0) →
       record { answer = Answer.Done; walk = record { «open» = true; number = x.number; position = x.sheet.steps }; rows = rows_of ds ps } ≡ open_call x g w l
   unfolding zeros
   open_done e ds ps d p =
@@ -72,7 +66,7 @@ module _ (x : Brought) (g : List ℕ) (w : Walk) (l : Lent.Rows) (lent : Bool) (
 
 -- ---- past the first twelve checks
 
-pub on_way : (x : Brought) (g : List ℕ) (w : Walk) (l : Lent.Rows) → first (twelve_tests x g w l []) ≡ Fine → OnWay x g w l
+pub on_way : (x : Brought) (g : List ℕ) (w : Walk) (l : Lent.Rows) → first (twelve_tests x g w l []) ≡ Ok tt → OnWay x g w l
 on_way x g w l e = ((twelve_holds x g w l []).0 ((stands_fine _ _ (twelve_stands x g w l [] [] tt)).0 e)).0
 
 module _ (x : Brought) (g : List ℕ) (w : Walk) (l : Lent.Rows) (o : OnWay x g w l) where
@@ -100,7 +94,7 @@ module _ (x : Brought) (g : List ℕ) (w : Walk) (l : Lent.Rows) (o : OnWay x g 
 -- ---- the last checks of back, value and hedge ratio
 
 module _ (x : Brought) (g : List ℕ) (w : Walk) (l : Lent.Rows) where
-  module _ {f : Refusal} (e : first (twelve_tests x g w l []) ≡ Refused f) where
+  module _ {f : Refusal} (e : first (twelve_tests x g w l []) ≡ Err f) where
     pub back_not : (c : ℕ) → not_done f w l ≡ back_call x g w l c
     unfolding back_tests
     back_not c = sym (back_refused x g w l c f (twelve_refused x g w.«open» w.number w.position l _ e))
@@ -113,7 +107,7 @@ module _ (x : Brought) (g : List ℕ) (w : Walk) (l : Lent.Rows) where
     unfolding ratio_tests
     ratio_not j k = sym (ratio_refused x g w l j k f (twelve_refused x g w.«open» w.number w.position l _ e))
 
-  module _ (e : first (twelve_tests x g w l []) ≡ Fine) where
+  module _ (e : first (twelve_tests x g w l []) ≡ Ok tt) where
     pub back_out : (c : ℕ) → w.position < c → not_done Refusal.OutOfSteps w l ≡ back_call x g w l c
     unfolding back_tests
     back_out c h = sym (back_refused x g w l c _ (twelve_fine x g w.«open» w.number w.position l _ e ∙ first_met _ _ _ (lt-ltb _ _ h)))
@@ -144,7 +138,7 @@ module _ (x : Brought) (g : List ℕ) (w : Walk) (l : Lent.Rows) where
     ratio_off j k h = sym (ratio_refused x g w l j k _ (twelve_fine x g w.«open» w.number w.position l _ e ∙ first_met _ _ _ h))
 
 -- The hedge ratio where its node is on the tree: 15, 16 or the ratio.
-module _ (x : Brought) (g : List ℕ) (w : Walk) (l : Lent.Rows) (e : first (twelve_tests x g w l []) ≡ Fine) (j k : ℕ) (p : j ≤ x.sheet.tranches) (q : k < x.sheet.names) where
+module _ (x : Brought) (g : List ℕ) (w : Walk) (l : Lent.Rows) (e : first (twelve_tests x g w l []) ≡ Ok tt) (j k : ℕ) (p : j ≤ x.sheet.tranches) (q : k < x.sheet.names) where
   abbrev own : ℤ
   own = jump x l j k
 
@@ -161,7 +155,7 @@ module _ (x : Brought) (g : List ℕ) (w : Walk) (l : Lent.Rows) (e : first (twe
   ratio_done = go (eqb (nat_abs index) 0) refl (leb (1_000_000 * nat_abs index) (nat_abs own)) refl
     where
       go : (a : Bool) → eqb (nat_abs index) 0 ≡ a → (b : Bool) → leb (1_000_000 * nat_abs index) (nat_abs own) ≡ b →
-          record { answer = hedge_answer (cond a Hedge.Flat (cond b Hedge.OffScale (Hedge.Millionths (ratio_of own index)))); walk = w; rows = l } ≡ ratio_call x g w l j k
+          record { answer = hedge_answer (cond a (Err NoRatio.Flat) (cond b (Err NoRatio.OffScale) (Ok (ratio_of own index)))); walk = w; rows = l } ≡ ratio_call x g w l j k
       go true d b f = sym (ratio_refused x g w l j k _ (on_tree ∙ first_met _ _ _ d))
       go false d true f = sym (ratio_refused x g w l j k _ (on_tree ∙ first_passed _ _ _ d ∙ first_met _ _ _ f))
       go false d false f = sym (ratio_fine x g w l j k (on_tree ∙ first_passed _ _ _ d ∙ first_passed _ _ _ f ∙ first_none))
@@ -170,25 +164,25 @@ module _ (x : Brought) (g : List ℕ) (w : Walk) (l : Lent.Rows) (e : first (twe
 
 module _ (x : Brought) (g q : List ℕ) (i : ℕ) where
   module _ (lent : Bool) (same : pool_bad x.sheet ≡ false → lent ≡ row_bad x g q) where
-    pub judged_not : {f : Refusal} → first (ten_tests x g lent []) ≡ Refused f → Refused f ≡ first (forward_tests x g q i)
+    pub judged_not : {f : Refusal} → first (ten_tests x g lent []) ≡ Err f → Err f ≡ first (forward_tests x g q i)
     unfolding forward_tests
     judged_not e = sym (ten_refused x g (row_bad x g q) _ (sym (ten_alike x g lent (row_bad x g q) [] same) ∙ e))
 
-    module _ (e : first (ten_tests x g lent []) ≡ Fine) where
+    module _ (e : first (ten_tests x g lent []) ≡ Ok tt) where
       ten_on : first (forward_tests x g q i) ≡ first ((ltb x.sheet.steps i, Refusal.OutOfSteps) ∷ [])
       unfolding forward_tests
       ten_on = ten_fine x g (row_bad x g q) _ (sym (ten_alike x g lent (row_bad x g q) [] same) ∙ e)
 
-      pub judged_out : x.sheet.steps < i → Refused Refusal.OutOfSteps ≡ first (forward_tests x g q i)
+      pub judged_out : x.sheet.steps < i → Err Refusal.OutOfSteps ≡ first (forward_tests x g q i)
       judged_out h = sym (ten_on ∙ first_met _ _ _ (lt-ltb _ _ h))
 
-      pub judged_fine : i ≤ x.sheet.steps → Fine ≡ first (forward_tests x g q i)
+      pub judged_fine : i ≤ x.sheet.steps → (Ok tt) ≡ first (forward_tests x g q i)
       judged_fine h = sym (ten_on ∙ first_passed _ _ _ (le-ltb _ _ h) ∙ first_none)
 
-  pub forward_not : {f : Refusal} → first (forward_tests x g q i) ≡ Refused f → not_forward f q ≡ forward_call x g q i
+  pub forward_not : {f : Refusal} → first (forward_tests x g q i) ≡ Err f → not_forward f q ≡ forward_call x g q i
   forward_not e = sym (forward_refused x g q i _ e)
 
-  module _ (e : first (forward_tests x g q i) ≡ Fine) where
+  module _ (e : first (forward_tests x g q i) ≡ Ok tt) where
     pub forwarding : Forwarding x g q i
     forwarding = (forward_holds x g q i).0 ((stands_fine _ _ (forward_stands x g q i)).0 e)
 

@@ -1,20 +1,15 @@
 -- A manner that agrees with ours in what it goes by agrees in every call.
-use Prim.Native.Nat.{ℕ, ◌-◌, ◌*◌}
-use mathlib.Core.Path.{◌≡◌, refl, sym, ◌∙◌, ap}
-use mathlib.Core.Bool.{Bool, ◌||◌}
-use mathlib.Core.List.{List, [], ◌∷◌, ◌++◌}
-use lib.Dec.{leb, ltb, eqb}
-use lib.IntN.{nat_abs}
+use Rattle.std.proofs.Common.{ℕ, ◌-◌, ◌*◌, ◌≡◌, refl, sym, ◌∙◌, ap, Bool, ◌||◌, List, [], ◌∷◌, ◌++◌, leb, ltb, eqb, nat_abs}
+use Rattle.refusals.specs.declared.Refusal.{Refusal}
+use Rattle.std.specs.Prelude.{Result, Ok, Err, ⊤}
 use Rattle.sheet.specs.Brought.{Brought}
 use Rattle.sheet.specs.Limits.{Limits}
 use Rattle.rows.specs.Rows.{Rows, soiled, distribution_row}
 use Rattle.refusals.specs.declared.Refusal.TheVariants.{NoWalk, OverCeiling, OutOfSteps, OffTree, FlatHedge, OffScale}
-use Rattle.refusals.specs.declared.Found.{Found}
-use Rattle.refusals.specs.declared.Found.TheVariants.{Fine, Refused}
 use Rattle.refusals.specs.Tests.{Test, first, sheet_tests}
 use Rattle.refusals.proofs.FirstTest.{joined_refused, joined_fine}
 use Rattle.admission.specs.LentTests.{rows_bad, row_bad, off_walk, ten_tests, walk_tests}
-use Rattle.figures.specs.declared.Answer.TheVariants.{Done, Position}
+use Rattle.figures.specs.Answer.{Done, Position}
 use Rattle.figures.specs.Nodes.{jump}
 use Rattle.walk.specs.declared.Walk.{Walk}
 use Rattle.walk.specs.RefusalOrders.{LentFit, OnWalk}
@@ -44,13 +39,13 @@ module _ (m : Manner) (x : Brought) (Lent : List ℕ → Walk → Rows → Type 
     joined more = refl
 
     -- what stands behind them counts only where they find nothing
-    behind : (a b : List Test) → (first (eleven []) ≡ Fine → first a ≡ first b) → first (eleven a) ≡ first (eleven b)
+    behind : (a b : List Test) → (first (eleven []) ≡ Ok tt → first a ≡ first b) → first (eleven a) ≡ first (eleven b)
     behind a b same = go (first (eleven [])) refl
       where
-        go : (f : Found) → first (eleven []) ≡ f → first (eleven a) ≡ first (eleven b)
-        go Fine e =
+        go : (f : Result ⊤ Refusal) → first (eleven []) ≡ f → first (eleven a) ≡ first (eleven b)
+        go (Ok tt) e =
             ap first (joined a) ∙ joined_fine (eleven []) a e ∙ same e ∙ sym (joined_fine (eleven []) b e) ∙ ap first (sym (joined b))
-        go (Refused f) e =
+        go (Err f) e =
             ap first (joined a) ∙ joined_refused (eleven []) a f e ∙ sym (joined_refused (eleven []) b f e) ∙ ap first (sym (joined b))
 
     twelve : (more : List Test) → Lent register walk rows → first (twelve_tests x register walk rows more) ≡ first (twelve_by m x register walk rows more)

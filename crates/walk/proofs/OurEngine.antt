@@ -1,5 +1,5 @@
 -- The promise, kept: what specs/Promise states of any engine holds of ours, and of no other.
-use mathlib.Core.Path.{◌≡◌}
+use Rattle.std.proofs.Common.{◌≡◌}
 use Rattle.walk.specs.Engine.{Engine}
 use Rattle.walk.specs.OurEngine.{ours}
 use Rattle.walk.specs.Promise.{Demand3, Keeps}

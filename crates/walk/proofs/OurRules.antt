@@ -1,19 +1,12 @@
 -- Our engine keeps the rule of each call, at any sheet, register, walk and rows.
-use Prim.Native.Nat.{ℕ, suc, ◌+◌, ◌-◌, ◌*◌, ◌^◌, ◌≤◌}
-use mathlib.Core.Path.{◌≡◌, refl, sym, ◌∙◌, ap, subst}
-use mathlib.Core.Bool.{true, false, true≢false}
-use mathlib.Core.List.{List, []}
-use mathlib.Core.Logic.{inl, inr}
-use native.Mathlib.Numerals.{add-one}
-use native.Mathlib.Omega.{arith}
-use lib.ListN.{length, get_or, set}
-use lib.Dec.{eqb}
+use Rattle.std.proofs.Common.{ℕ, suc, ◌+◌, ◌-◌, ◌*◌, ◌^◌, ◌≤◌, ◌≡◌, refl, sym, ◌∙◌, ap, subst, true, false, true≢false, List, [], inl, inr, add-one}
+use Rattle.std.proofs.Common.{arith, length, get_or, set, eqb}
+use Rattle.std.specs.Prelude.{Result, Ok, Err, ⊤}
 use Rattle.cash.specs.Units.{B}
 use Rattle.cash.specs.Sums.{sum_to}
 use Rattle.hedges.specs.Hedges.{ratio_of}
 use Rattle.cash.proofs.Sums.{sum_cong}
-use Rattle.register.specs.declared.answers.WriteAnswer as Register
-use Rattle.register.specs.Register.{Write, issue, withdraw, answer_of}
+use Rattle.register.specs.Register.{WriteAnswer, Write, issue, withdraw, answer_of}
 use Rattle.register.proofs.Rules.{left, of_length, of_withdrawn, of_unissued, of_live, Says, wrong, withdrawn, unissued, live, says}
 use Rattle.sheet.specs.Terms.{Terms}
 use Rattle.sheet.specs.Limits.{TermsWithin}
@@ -25,10 +18,9 @@ use Rattle.rows.specs.Rows.{distribution_row, Rows}
 use Rattle.rows.proofs.Tables.{length_tab, get_d_tab}
 use Rattle.sheet.specs.Brought.{Brought}
 use Rattle.refusals.specs.declared.Refusal.{Refusal}
-use Rattle.refusals.specs.declared.Found.{Found}
 use Rattle.refusals.specs.Tests.{Test, first}
 use Rattle.walk.specs.declared.Walk.{Walk}
-use Rattle.figures.specs.declared.Answer.TheVariants.{Refused, Done, Position, Ratio}
+use Rattle.figures.specs.Answer.{Refused, Done, Position, Ratio}
 use Rattle.walk.specs.Answers.{said_of, said_by, accepted}
 use Rattle.figures.specs.Nodes.{jump}
 use Rattle.walk.specs.RefusalOrders.{RefusalOrder, Judges}
@@ -44,7 +36,7 @@ use Rattle.walk.proofs.Ordering.{live_issued, not_either, open_stands, back_stan
 -- ---- issue and withdraw
 
 -- What the register's calls give back where they answer a.
-abbrev entry : Write → List ℕ → ℕ → Register.WriteAnswer → RegisterResult
+abbrev entry : Write → List ℕ → ℕ → WriteAnswer → RegisterResult
 entry c g y a = record { said = said_by a; register = left c g y a }
 
 module _ (g : List ℕ) (y : ℕ) where
@@ -54,8 +46,8 @@ module _ (g : List ℕ) (y : ℕ) where
   writes_one : (byte : ℕ) → ByteWrite g y byte (record { said = saying []; register = set g y byte })
   writes_one byte = record { does = λ a. (refl, refl); leaves = λ a. absurd (true≢false a) }
 
-  given : (c : Write) (P : RegisterResult → Type 0) {a : Register.WriteAnswer} → answer_of c g y ≡ a → P (entry c g y a) → P (write_call c g y)
-  given c P e r = subst (λ (a : Register.WriteAnswer). P (entry c g y a)) (sym e) r
+  given : (c : Write) (P : RegisterResult → Type 0) {a : WriteAnswer} → answer_of c g y ≡ a → P (entry c g y a) → P (write_call c g y)
+  given c P e r = subst (λ (a : WriteAnswer). P (entry c g y a)) (sym e) r
 
   pub issues : IssueRule g y (write_call issue g y)
   unfolding Judges
@@ -88,34 +80,34 @@ module _ (g : List ℕ) (y : ℕ) where
 -- ---- an outcome by the first test met
 
 module _ (w : Walk) (l : Rows) (good : Outcome) where
-  pub outcome_fine : (o : Found) → o ≡ Found.Fine → or_outcome o w l good ≡ good
+  pub outcome_fine : (o : Result ⊤ Refusal) → o ≡ Ok tt → or_outcome o w l good ≡ good
   unfolding or_outcome
   outcome_fine o e = rw e
 
-  pub outcome_refused : (o : Found) (f : Refusal) → o ≡ Found.Refused f → or_outcome o w l good ≡ record { answer = Refused f; walk = w; rows = l }
+  pub outcome_refused : (o : Result ⊤ Refusal) (f : Refusal) → o ≡ Err f → or_outcome o w l good ≡ record { answer = Refused f; walk = w; rows = l }
   unfolding or_outcome
   outcome_refused o f e = rw e
 
-  pub outcome_cases : (P : Outcome → Type 0) (o : Found) → (o ≡ Found.Fine → P good)
-      → ((f : Refusal) → o ≡ Found.Refused f → P (record { answer = Refused f; walk = w; rows = l })) → P (or_outcome o w l good)
+  pub outcome_cases : (P : Outcome → Type 0) (o : Result ⊤ Refusal) → (o ≡ Ok tt → P good)
+      → ((f : Refusal) → o ≡ Err f → P (record { answer = Refused f; walk = w; rows = l })) → P (or_outcome o w l good)
   unfolding or_outcome
-  outcome_cases P Found.Fine p q = p refl
-  outcome_cases P (Found.Refused f) p q = q f refl
+  outcome_cases P (Ok tt) p q = p refl
+  outcome_cases P (Err f) p q = q f refl
 
 module _ (q : List ℕ) (good : ForwardOutcome) where
-  pub forward_outcome_fine : (o : Found) → o ≡ Found.Fine → or_forward_outcome o q good ≡ good
+  pub forward_outcome_fine : (o : Result ⊤ Refusal) → o ≡ Ok tt → or_forward_outcome o q good ≡ good
   unfolding or_forward_outcome
   forward_outcome_fine o e = rw e
 
-  pub forward_outcome_refused : (o : Found) (f : Refusal) → o ≡ Found.Refused f → or_forward_outcome o q good ≡ record { answer = Refused f; row = q }
+  pub forward_outcome_refused : (o : Result ⊤ Refusal) (f : Refusal) → o ≡ Err f → or_forward_outcome o q good ≡ record { answer = Refused f; row = q }
   unfolding or_forward_outcome
   forward_outcome_refused o f e = rw e
 
-  pub forward_outcome_cases : (P : ForwardOutcome → Type 0) (o : Found) → (o ≡ Found.Fine → P good)
-      → ((f : Refusal) → o ≡ Found.Refused f → P (record { answer = Refused f; row = q })) → P (or_forward_outcome o q good)
+  pub forward_outcome_cases : (P : ForwardOutcome → Type 0) (o : Result ⊤ Refusal) → (o ≡ Ok tt → P good)
+      → ((f : Refusal) → o ≡ Err f → P (record { answer = Refused f; row = q })) → P (or_forward_outcome o q good)
   unfolding or_forward_outcome
-  forward_outcome_cases P Found.Fine p r = p refl
-  forward_outcome_cases P (Found.Refused f) p r = r f refl
+  forward_outcome_cases P (Ok tt) p r = p refl
+  forward_outcome_cases P (Err f) p r = r f refl
 
 -- What tests that stand for an order make of an outcome, and of forward's.
 module _ (t : List Test) (m : RefusalOrder) (s : Stands t m) (w : Walk) (l : Rows) (good : Outcome) (done : (said_of good.answer).number ≡ 0) where
@@ -189,11 +181,11 @@ abbrev pub not_forward : Refusal → List ℕ → ForwardOutcome
 not_forward f q = record { answer = Refused f; row = q }
 
 module _ (x : Brought) (g : List ℕ) (w : Walk) (l : Rows) where
-  pub open_fine : first (open_tests x g l) ≡ Found.Fine → open_call x g w l ≡ open_done x
+  pub open_fine : first (open_tests x g l) ≡ Ok tt → open_call x g w l ≡ open_done x
   unfolding open_call
   open_fine = outcome_fine w l (open_done x) (first (open_tests x g l))
 
-  pub open_refused : (f : Refusal) → first (open_tests x g l) ≡ Found.Refused f → open_call x g w l ≡ not_done f w l
+  pub open_refused : (f : Refusal) → first (open_tests x g l) ≡ Err f → open_call x g w l ≡ not_done f w l
   unfolding open_call
   open_refused = outcome_refused w l (open_done x) (first (open_tests x g l))
 
@@ -214,11 +206,11 @@ module _ (x : Brought) (g : List ℕ) (w : Walk) (l : Rows) where
       }
 
   module _ (c : ℕ) where
-    pub back_fine : first (back_tests x g w l c) ≡ Found.Fine → back_call x g w l c ≡ back_done x w l c
+    pub back_fine : first (back_tests x g w l c) ≡ Ok tt → back_call x g w l c ≡ back_done x w l c
     unfolding back_call
     back_fine = outcome_fine w l (back_done x w l c) (first (back_tests x g w l c))
 
-    pub back_refused : (f : Refusal) → first (back_tests x g w l c) ≡ Found.Refused f → back_call x g w l c ≡ not_done f w l
+    pub back_refused : (f : Refusal) → first (back_tests x g w l c) ≡ Err f → back_call x g w l c ≡ not_done f w l
     unfolding back_call
     back_refused = outcome_refused w l (back_done x w l c) (first (back_tests x g w l c))
 
@@ -233,11 +225,11 @@ module _ (x : Brought) (g : List ℕ) (w : Walk) (l : Rows) where
         }
 
   module _ (j k : ℕ) where
-    pub value_fine : first (value_tests x g w l j k) ≡ Found.Fine → value_call x g w l j k ≡ value_done x w l j k
+    pub value_fine : first (value_tests x g w l j k) ≡ Ok tt → value_call x g w l j k ≡ value_done x w l j k
     unfolding value_call
     value_fine = outcome_fine w l (value_done x w l j k) (first (value_tests x g w l j k))
 
-    pub value_refused : (f : Refusal) → first (value_tests x g w l j k) ≡ Found.Refused f → value_call x g w l j k ≡ not_done f w l
+    pub value_refused : (f : Refusal) → first (value_tests x g w l j k) ≡ Err f → value_call x g w l j k ≡ not_done f w l
     unfolding value_call
     value_refused = outcome_refused w l (value_done x w l j k) (first (value_tests x g w l j k))
 
@@ -251,11 +243,11 @@ module _ (x : Brought) (g : List ℕ) (w : Walk) (l : Rows) where
           leaves = outcome_leaves (value_tests x g w l j k) _ (value_stands x g w l j k) w l (value_done x w l j k) refl;
         }
 
-    pub ratio_fine : first (ratio_tests x g w l j k) ≡ Found.Fine → ratio_call x g w l j k ≡ ratio_done x w l j k
+    pub ratio_fine : first (ratio_tests x g w l j k) ≡ Ok tt → ratio_call x g w l j k ≡ ratio_done x w l j k
     unfolding ratio_call
     ratio_fine = outcome_fine w l (ratio_done x w l j k) (first (ratio_tests x g w l j k))
 
-    pub ratio_refused : (f : Refusal) → first (ratio_tests x g w l j k) ≡ Found.Refused f → ratio_call x g w l j k ≡ not_done f w l
+    pub ratio_refused : (f : Refusal) → first (ratio_tests x g w l j k) ≡ Err f → ratio_call x g w l j k ≡ not_done f w l
     unfolding ratio_call
     ratio_refused = outcome_refused w l (ratio_done x w l j k) (first (ratio_tests x g w l j k))
 
@@ -293,11 +285,11 @@ module _ (x : Terms) (i : ℕ) where
   distribution_near w = rw (distribution_sum (λ k y. apart (y * B ^ i) (probability (tree_of x) i k * B))) (unfold errors tree_of in (distribution_bounds x w).error i)
 
 module _ (x : Brought) (g q : List ℕ) (i : ℕ) where
-  pub forward_fine : first (forward_tests x g q i) ≡ Found.Fine → forward_call x g q i ≡ forward_done x i
+  pub forward_fine : first (forward_tests x g q i) ≡ Ok tt → forward_call x g q i ≡ forward_done x i
   unfolding forward_call
   forward_fine = forward_outcome_fine q (forward_done x i) (first (forward_tests x g q i))
 
-  pub forward_refused : (f : Refusal) → first (forward_tests x g q i) ≡ Found.Refused f → forward_call x g q i ≡ not_forward f q
+  pub forward_refused : (f : Refusal) → first (forward_tests x g q i) ≡ Err f → forward_call x g q i ≡ not_forward f q
   unfolding forward_call
   forward_refused = forward_outcome_refused q (forward_done x i) (first (forward_tests x g q i))
 

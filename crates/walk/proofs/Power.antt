@@ -1,19 +1,13 @@
 -- A withdrawal that returned holds for ever, as does a byte that says withdrawn, wherever the power fails.
 -- A write only clears bits, of its own byte.
-use Prim.Native.Nat.{ℕ, suc, ◌≤◌, ◌<◌}
-use mathlib.Core.Path.{◌≡◌, refl, sym, ◌∙◌, ap, subst}
-use mathlib.Core.Bool.{Bool, true, false, cond, ◌&&◌, ◌||◌, false≢true}
-use mathlib.Core.List.{List, [], ◌∷◌}
-use mathlib.Core.Logic.{◌≢◌, ◌⊎◌, inl, inr}
-use native.Mathlib.Omega.{arith}
+use Rattle.std.proofs.Common.{ℕ, suc, ◌≤◌, ◌<◌, ◌≡◌, refl, sym, ◌∙◌, ap, subst, Bool, true, false, cond, ◌&&◌, ◌||◌, List, [], ◌∷◌, ◌≢◌, ◌⊎◌, inl}
+use Rattle.std.proofs.Common.{inr, arith, length, get_or, set, length-set, get_or-set_same, get_or-set_other, eqb, eqb-true}
+use mathlib.Core.Bool.{false≢true}
 use native.Mathlib.Decide.{dec_lt}
-use lib.ListN.{length, get_or, set, length-set, get_or-eq_default}
-use lib.Seq.{get_or-set_same, get_or-set_other}
-use lib.Dec.{eqb}
-use borrow.Author.Tests.{eqb-true}
+use lib.ListN.{get_or-eq_default}
 use Rattle.register.specs.Rules.{Unissued, Live}
 use Rattle.register.specs.Cut.{may_be_left}
-use Rattle.register.proofs.Masks.{both}
+use Rattle.std.proofs.lemmas.Bool.{and_parts as both}
 use Rattle.sheet.specs.Brought.{Brought}
 use Rattle.walk.specs.declared.Walk.{Walk}
 use Rattle.rows.specs.Rows.{Rows}

@@ -1,14 +1,7 @@
 -- On the rows of a walk no default leg makes a jump negative, and with all fractions 0 no jump and no hedge ratio is.
-use Prim.Native.Nat.{ℕ, zero, suc, ◌+◌, ◌-◌, ◌*◌, ◌≤◌, ◌<◌}
-use mathlib.Core.Path.{◌≡◌, refl, ◌∙◌, ap, subst}
-use mathlib.Core.Bool.{Bool, true, false, cond, true≢false}
-use mathlib.Core.List.{[], ◌∷◌}
-use native.Mathlib.Nat.{le_refl, mul-zero}
-use native.Mathlib.Omega.{arith}
-use lib.ListN.{get_or}
-use lib.Dec.{ltb}
-use lib.IntN.{ℤ, pos, negsuc, neg_ℤ, nat_abs, sub_ℕ, ◌+ℤ◌, ◌*ℤ◌, neg_ℤ-neg_ℤ}
-use borrow.Author.Tests.{le-ltb, ltb-true}
+use Rattle.std.proofs.Common.{ℕ, zero, suc, ◌+◌, ◌-◌, ◌*◌, ◌≤◌, ◌<◌, ◌≡◌, refl, ◌∙◌, ap, subst, Bool, true, false, cond, true≢false, [], ◌∷◌, le_refl}
+use Rattle.std.proofs.Common.{mul-zero, arith, get_or, ltb, ℤ, pos, negsuc, neg_ℤ, nat_abs, ◌+ℤ◌, ◌*ℤ◌, le-ltb, ltb-true}
+use lib.IntN.{sub_ℕ, neg_ℤ-neg_ℤ}
 use Rattle.hedges.specs.declared.Node.{Node}
 use Rattle.hedges.specs.Hedges.{negative, with_sign, millionths, change_of, jump_of, ratio_of}
 use Rattle.cash.specs.Losses.{default_payment}

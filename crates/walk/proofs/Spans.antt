@@ -1,7 +1,5 @@
 -- A sheet of which a span reaches past the numbers has a list of another length than it should, so 2 is the first rule that is broken.
-use mathlib.Core.Path.{◌≡◌}
-use mathlib.Core.List.{◌∷◌}
-use mathlib.Core.Logic.{inl, inr}
+use Rattle.std.proofs.Common.{◌≡◌, ◌∷◌, inl, inr}
 use Rattle.sheet.specs.Limits.{ListsFit}
 use Rattle.sheet.specs.Spans.{brought_in, SpansWithin}
 use Rattle.sheet.proofs.Spans.{spans_judged}

@@ -1,9 +1,5 @@
 -- Rows that hold D and A, and that a step and c steps back take such rows to such rows.
-use Prim.Native.Nat.{ℕ, zero, suc, ◌+◌, ◌-◌, ◌*◌, ◌≤◌}
-use mathlib.Core.Path.{◌≡◌, refl, sym, ◌∙◌, ap, subst₂, subst}
-use native.Mathlib.Omega.{arith}
-use native.Mathlib.Nat.{add-zero}
-use lib.ListN.{get_or}
+use Rattle.std.proofs.Common.{ℕ, zero, suc, ◌+◌, ◌-◌, ◌*◌, ◌≤◌, ◌≡◌, refl, sym, ◌∙◌, ap, subst₂, subst, arith, add-zero, get_or}
 use Rattle.cash.specs.Units.{half}
 use Rattle.cash.specs.Losses.{default_payment, premium_payment, elapsed_payment}
 use Rattle.tree.specs.Backward.{roll_node, back_from, back, leg_value}

@@ -1,10 +1,5 @@
 -- The rows of a walk: the calls' rows keep to the backward rule, and it gives no others.
-use Prim.Native.Nat.{ℕ, zero, suc, ◌+◌, ◌-◌, ◌*◌, ◌≤◌}
-use mathlib.Core.Path.{◌≡◌, refl, sym, ◌∙◌, ap, ap₂, subst}
-use mathlib.Core.List.{List}
-use native.Mathlib.Nat.{add-zero}
-use native.Mathlib.Omega.{arith}
-use lib.ListN.{length, get_or}
+use Rattle.std.proofs.Common.{ℕ, zero, suc, ◌+◌, ◌-◌, ◌*◌, ◌≤◌, ◌≡◌, refl, sym, ◌∙◌, ap, ap₂, subst, List, add-zero, arith, length, get_or}
 use Rattle.cash.specs.Units.{half}
 use Rattle.cash.specs.Losses.{default_payment, premium_payment, elapsed_payment}
 use Rattle.tree.specs.Paths.{survive, default}

@@ -1,11 +1,9 @@
 -- What calls answer, by document 01's numbers and values.
 use Rattle.std.specs.Prelude.{ℕ, Bool, false, List, [], ◌∷◌, eqb, ℤ, pos}
-use Rattle.register.specs.declared.answers.WriteAnswer as Register
-use Rattle.register.specs.Register.{number_of}
+use Rattle.register.specs.Register.{WriteAnswer, number_of}
 use Rattle.refusals.specs.Refusals.{refusal_number}
 use Rattle.walk.specs.declared.Walk.{Walk}
-use Rattle.figures.specs.declared.Answer.{Answer}
-use Rattle.figures.specs.declared.Answer.TheVariants.{Refused, Done, Position, Worth, Ratio}
+use Rattle.figures.specs.Answer.{Answer, Refused, Done, Position, Worth, Ratio}
 
 -- A fresh walk is closed, with zeros.
 abbrev pub fresh : Walk
@@ -24,7 +22,7 @@ said_of (Worth d a w) = record { number = 0; values = pos d ∷ pos a ∷ w ∷ 
 said_of (Ratio z) = record { number = 0; values = z ∷ [] }
 
 -- The same of issue and withdraw, which answer no value.
-abbrev pub said_by : Register.WriteAnswer → Said
+abbrev pub said_by : WriteAnswer → Said
 said_by answer = record { number = number_of answer; values = [] }
 
 abbrev pub accepted : Said → Bool

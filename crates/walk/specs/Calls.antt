@@ -1,15 +1,14 @@
 -- The calls of the walk as total functions: what each answers, and the walk and the rows it leaves.
-use Rattle.std.specs.Prelude.{ℕ, ◌-◌, ◌*◌, true, ◌||◌, List, [], ◌∷◌, leb, ltb, eqb, nat_abs}
+use Rattle.refusals.specs.declared.Refusal.{Refusal}
+use Rattle.std.specs.Prelude.{ℕ, ◌-◌, ◌*◌, true, ◌||◌, List, [], ◌∷◌, leb, ltb, eqb, nat_abs, Result, Ok, Err, ⊤}
 use Rattle.hedges.specs.Hedges.{ratio_of}
 use Rattle.tree.specs.Sheet.{default_of, premium_of}
 use Rattle.rows.specs.Rows.{Rows, rows_of, row_of, rolled_back, distribution_row}
 use Rattle.sheet.specs.Brought.{Brought}
 use Rattle.refusals.specs.declared.Refusal.TheVariants.{OutOfSteps, OffTree, FlatHedge, OffScale}
-use Rattle.refusals.specs.declared.Found.{Found}
 use Rattle.refusals.specs.Tests.{Test, first}
 use Rattle.walk.specs.declared.Walk.{Walk}
-use Rattle.figures.specs.declared.Answer.{Answer}
-use Rattle.figures.specs.declared.Answer.TheVariants.{Refused, Done, Position, Ratio}
+use Rattle.figures.specs.Answer.{Answer, Refused, Done, Position, Ratio, done_answer}
 use Rattle.walk.specs.declared.Reply.{Reply}
 use Rattle.figures.specs.Nodes.{jump}
 use Rattle.figures.specs.Replies.{worth}
@@ -25,12 +24,15 @@ pub record ForwardOutcome : Type 0 where
   pub answer : Answer
   pub row : List ℕ
 
--- What the code hands over and leaves, as these.
-abbrev pub replied : Reply → List ℕ → List ℕ → Outcome
-replied reply defaults premiums = record { answer = reply.answer; walk = reply.walk; rows = rows_of defaults premiums }
+-- What the code hands over and leaves, as these, where `answers` tells which answer a result is.
+abbrev pub left : {T : Type 0} → (Result T Refusal → Answer) → Result T Refusal → Walk → List ℕ → List ℕ → Outcome
+left answers result walk defaults premiums = record { answer = answers result; walk = walk; rows = rows_of defaults premiums }
 
-abbrev pub forward_outcome : Answer → List ℕ → ForwardOutcome
-forward_outcome answer row = record { answer = answer; row = row }
+abbrev pub replied : {T : Type 0} → (Result T Refusal → Answer) → Reply T → List ℕ → List ℕ → Outcome
+replied answers reply defaults premiums = left answers reply.answer reply.walk defaults premiums
+
+abbrev pub forward_outcome : Result ⊤ Refusal → List ℕ → ForwardOutcome
+forward_outcome result row = record { answer = done_answer result; row = row }
 
 -- ---- the orders
 
@@ -59,13 +61,13 @@ forward_tests x register row i = ten_tests x register (row_bad x register row) (
 -- ---- the calls
 
 -- A refusal hands back walk and rows as they were.
-unfoldable pub or_outcome : Found → Walk → Rows → Outcome → Outcome
-or_outcome Found.Fine walk rows o = o
-or_outcome (Found.Refused refusal) walk rows o = record { answer = Refused refusal; walk = walk; rows = rows }
+unfoldable pub or_outcome : Result ⊤ Refusal → Walk → Rows → Outcome → Outcome
+or_outcome (Ok tt) walk rows o = o
+or_outcome (Err refusal) walk rows o = record { answer = Refused refusal; walk = walk; rows = rows }
 
-unfoldable pub or_forward_outcome : Found → List ℕ → ForwardOutcome → ForwardOutcome
-or_forward_outcome Found.Fine row o = o
-or_forward_outcome (Found.Refused refusal) row o = record { answer = Refused refusal; row = row }
+unfoldable pub or_forward_outcome : Result ⊤ Refusal → List ℕ → ForwardOutcome → ForwardOutcome
+or_forward_outcome (Ok tt) row o = o
+or_forward_outcome (Err refusal) row o = record { answer = Refused refusal; row = row }
 
 unfoldable pub zeros : Brought → Rows
 zeros x = record { defaults = row_of x.sheet (λ j k. 0); premiums = row_of x.sheet (λ j k. 0) }

@@ -1,15 +1,14 @@
 -- The five calls that bring a sheet, by any checks and any walk: so the calls before a request are told by what it changed, and by nothing else.
-use Rattle.std.specs.Prelude.{ℕ, ◌-◌, ◌*◌, ◌≡◌, Bool, true, ◌||◌, List, [], ◌∷◌, leb, ltb, eqb, nat_abs}
+use Rattle.std.specs.Prelude.{ℕ, ◌-◌, ◌*◌, ◌≡◌, Bool, true, ◌||◌, List, [], ◌∷◌, leb, ltb, eqb, nat_abs, Ok}
 use Rattle.hedges.specs.Hedges.{ratio_of}
 use Rattle.register.specs.Register.{status_in}
 use Rattle.sheet.specs.Terms.{Terms}
 use Rattle.sheet.specs.Brought.{Brought}
 use Rattle.rows.specs.Rows.{Rows}
 use Rattle.refusals.specs.declared.Refusal.TheVariants.{Withdrawn, Unissued, NoWalk, OverCeiling, OutOfSteps, OffTree, FlatHedge, OffScale}
-use Rattle.refusals.specs.declared.Found.TheVariants.{Fine}
 use Rattle.refusals.specs.Tests.{Test, first}
 use Rattle.admission.specs.LentTests.{rows_bad, row_bad, is_withdrawn, is_unissued, off_walk, ten_tests}
-use Rattle.figures.specs.declared.Answer.TheVariants.{Done, Position, Ratio}
+use Rattle.figures.specs.Answer.{Done, Position, Ratio}
 use Rattle.figures.specs.Nodes.{jump}
 use Rattle.figures.specs.Replies.{worth}
 use Rattle.walk.specs.declared.Walk.{Walk}
@@ -76,7 +75,7 @@ forward_by m x register row i =
 -- The checks before 12 are passed, so 12 is asked.
 abbrev pub CeilingsAsked : Brought → List ℕ → Walk → Rows → Type 0
 CeilingsAsked x register walk rows =
-    first (ten_tests x register (rows_bad x register rows) ((off_walk x walk.«open» walk.number walk.position, NoWalk) ∷ [])) ≡ Fine
+    first (ten_tests x register (rows_bad x register rows) ((off_walk x walk.«open» walk.number walk.position, NoWalk) ∷ [])) ≡ Ok tt
 
 -- Each of our calls that brings the sheet x does what it does in the manner m, accepted or refused; those that ask for 12 do where they are lent rows
 -- of a kind.

@@ -2,7 +2,7 @@
 
 #![tactic(auto)]
 
-ghost use Rattle.std.specs.Prelude.{◌≡◌};
+ghost use Rattle.std.specs.Prelude.{◌≡◌, []};
 ghost use Rattle.sheet.specs.Spans.{brought_in};
 ghost use Rattle.walk.specs.Answers;
 ghost use Rattle.walk.specs.CallLists.{own_rows, opening, back, value};
@@ -11,11 +11,13 @@ ghost use Rattle.walk.specs.OurEngine.{walk_result, forward_result};
 ghost use Rattle.walk.specs.CallContracts.{Promised};
 ghost use Rattle.rows.specs.Rows.{rows_of};
 ghost use Rattle.refusals.specs.Tests.{first};
-ghost use Rattle.walk.specs.Calls.{replied, forward_outcome, forward_tests, open_call, back_call, value_call, ratio_call, forward_call};
+ghost use Rattle.figures.specs.Answer.{done_answer, position_answer, worth_answer, ratio_answer};
+ghost use Rattle.walk.specs.Calls.{left, replied, forward_outcome, twelve_tests, forward_tests};
+ghost use Rattle.walk.specs.Calls.{open_call, back_call, value_call, ratio_call, forward_call};
 
-pub use figures::Answer;
+pub use figures::Worth;
 use figures::replies;
-pub use refusals::{Found, Refusal};
+pub use refusals::Refusal;
 pub use sheet::{Pool, Sheet};
 
 // A walk: whether it is open, the number of its sheet, and the step it stands at. A fresh one is all zeros.
@@ -29,8 +31,8 @@ pub struct Walk {
 
 // An answer with the walk handed back.
 #[derive(Clone, Copy)]
-pub struct Reply {
-    pub answer: Answer,
+pub struct Reply<T> {
+    pub answer: Result<T, Refusal>,
     pub walk: Walk,
 }
 
@@ -54,31 +56,16 @@ impl Walk {
         register: &[u8],
         defaults: &mut [u64],
         premiums: &mut [u64],
-    ) -> Reply
-        ensures gives { replied result defaults.new premiums.new
+    ) -> Reply<()>
+        ensures gives { replied done_answer result defaults.new premiums.new
             ≡ open_call (brought_in sheet numbers.now) register.now self
             (rows_of defaults.old premiums.old) }
         ensures promised { Promised (brought_in sheet numbers.now) register.now self
             (rows_of defaults.old premiums.old)
-            (opening sheet.pool.number own_rows) (replied result defaults.new premiums.new) }
+            (opening sheet.pool.number own_rows) (replied done_answer result defaults.new premiums.new) }
     {
-        let lent = admission::rows_differ(sheet.pool, register, defaults, premiums);
-        let found = admission::to_ten(sheet, numbers, register, lent);
-        if let Found::Refused(f) = found {
-            return Reply {
-                answer: Answer::Refused(f),
-                walk: self,
-            };
-        }
-        figures::clear(defaults);
-        figures::clear(premiums);
-        self.open = true;
-        self.number = sheet.pool.number;
-        self.position = sheet.pool.steps;
-        Reply {
-            answer: Answer::Done,
-            walk: self,
-        }
+        let answer = self.start(sheet, numbers, register, defaults, premiums);
+        Reply { answer, walk: self }
     }
 
     // Takes both rows count steps back.
@@ -90,43 +77,16 @@ impl Walk {
         defaults: &mut [u64],
         premiums: &mut [u64],
         count: usize,
-    ) -> Reply
-        ensures gives { replied result defaults.new premiums.new
+    ) -> Reply<usize>
+        ensures gives { replied position_answer result defaults.new premiums.new
             ≡ back_call (brought_in sheet numbers.now) register.now self
             (rows_of defaults.old premiums.old) count }
         ensures promised { Promised (brought_in sheet numbers.now) register.now self
             (rows_of defaults.old premiums.old)
-            (back sheet.pool.number own_rows count) (replied result defaults.new premiums.new) }
+            (back sheet.pool.number own_rows count) (replied position_answer result defaults.new premiums.new) }
     {
-        let found = admission::to_twelve(
-            self.open,
-            self.number,
-            self.position,
-            sheet,
-            numbers,
-            register,
-            defaults,
-            premiums,
-        );
-        if let Found::Refused(f) = found {
-            return Reply {
-                answer: Answer::Refused(f),
-                walk: self,
-            };
-        }
-        let position = self.position;
-        if position < count {
-            return Reply {
-                answer: Answer::Refused(Refusal::OutOfSteps),
-                walk: self,
-            };
-        }
-        rollback::walk_back(sheet, numbers, defaults, premiums, position, count);
-        self.position = position - count;
-        Reply {
-            answer: Answer::Position(position - count),
-            walk: self,
-        }
+        let answer = self.step_back(sheet, numbers, register, defaults, premiums, count);
+        Reply { answer, walk: self }
     }
 
     // D, A and W of a tranche at a count.
@@ -139,44 +99,16 @@ impl Walk {
         premiums: &[u64],
         tranche: usize,
         count: usize,
-    ) -> Reply
-        ensures gives { replied result defaults.now premiums.now
+    ) -> Reply<Worth>
+        ensures gives { replied worth_answer result defaults.now premiums.now
             ≡ value_call (brought_in sheet numbers.now) register.now self
             (rows_of defaults.now premiums.now) tranche count }
         ensures promised { Promised (brought_in sheet numbers.now) register.now self
             (rows_of defaults.now premiums.now)
-            (value sheet.pool.number own_rows tranche count) (replied result defaults.now premiums.now) }
+            (value sheet.pool.number own_rows tranche count) (replied worth_answer result defaults.now premiums.now) }
     {
-        let found = admission::to_twelve(
-            self.open,
-            self.number,
-            self.position,
-            sheet,
-            numbers,
-            register,
-            defaults,
-            premiums,
-        );
-        if let Found::Refused(f) = found {
-            return Reply {
-                answer: Answer::Refused(f),
-                walk: self,
-            };
-        }
-        if sheet.pool.tranches < tranche {
-            return Reply {
-                answer: Answer::Refused(Refusal::OffTree),
-                walk: self,
-            };
-        }
-        if sheet.pool.names < count {
-            return Reply {
-                answer: Answer::Refused(Refusal::OffTree),
-                walk: self,
-            };
-        }
         Reply {
-            answer: replies::worth_at(sheet, numbers, defaults, premiums, tranche, count),
+            answer: self.worth(sheet, numbers, register, defaults, premiums, tranche, count),
             walk: self,
         }
     }
@@ -191,15 +123,34 @@ impl Walk {
         premiums: &[u64],
         tranche: usize,
         count: usize,
-    ) -> Reply
-        ensures gives { replied result defaults.now premiums.now
+    ) -> Reply<i64>
+        ensures gives { replied ratio_answer result defaults.now premiums.now
             ≡ ratio_call (brought_in sheet numbers.now) register.now self
             (rows_of defaults.now premiums.now) tranche count }
         ensures rule { RatioRule (brought_in sheet numbers.now) register.now self
             (rows_of defaults.now premiums.now) tranche count
-            (walk_result (replied result defaults.now premiums.now)) }
+            (walk_result (replied ratio_answer result defaults.now premiums.now)) }
     {
-        let found = admission::to_twelve(
+        Reply {
+            answer: self.ratio(sheet, numbers, register, defaults, premiums, tranche, count),
+            walk: self,
+        }
+    }
+
+    // Checks 1 to 12 of a call on this walk.
+    fn admitted(
+        self,
+        sheet: Sheet,
+        numbers: &[u64],
+        register: &[u8],
+        defaults: &[u64],
+        premiums: &[u64],
+    ) -> Result<(), Refusal>
+        ensures { result
+            ≡ first (twelve_tests (brought_in sheet numbers.now) register.now self
+            (rows_of defaults.now premiums.now) []) }
+    {
+        admission::to_twelve(
             self.open,
             self.number,
             self.position,
@@ -208,32 +159,101 @@ impl Walk {
             register,
             defaults,
             premiums,
-        );
-        if let Found::Refused(f) = found {
-            return Reply {
-                answer: Answer::Refused(f),
-                walk: self,
-            };
+        )
+    }
+
+    // What open does to this walk.
+    fn start(
+        &mut self,
+        sheet: Sheet,
+        numbers: &[u64],
+        register: &[u8],
+        defaults: &mut [u64],
+        premiums: &mut [u64],
+    ) -> Result<(), Refusal>
+        ensures { left done_answer result self.new defaults.new premiums.new
+            ≡ open_call (brought_in sheet numbers.now) register.now self.old
+            (rows_of defaults.old premiums.old) }
+    {
+        let lent = admission::rows_differ(sheet.pool, register, defaults, premiums);
+        admission::to_ten(sheet, numbers, register, lent)?;
+        figures::clear(defaults);
+        figures::clear(premiums);
+        self.open = true;
+        self.number = sheet.pool.number;
+        self.position = sheet.pool.steps;
+        Ok(())
+    }
+
+    // What back does to this walk.
+    fn step_back(
+        &mut self,
+        sheet: Sheet,
+        numbers: &[u64],
+        register: &[u8],
+        defaults: &mut [u64],
+        premiums: &mut [u64],
+        count: usize,
+    ) -> Result<usize, Refusal>
+        ensures { left position_answer result self.new defaults.new premiums.new
+            ≡ back_call (brought_in sheet numbers.now) register.now self.old
+            (rows_of defaults.old premiums.old) count }
+    {
+        self.admitted(sheet, numbers, register, defaults, premiums)?;
+        let position = self.position;
+        if position < count {
+            return Err(Refusal::OutOfSteps);
         }
-        if sheet.pool.tranches < tranche {
-            return Reply {
-                answer: Answer::Refused(Refusal::OffTree),
-                walk: self,
-            };
+        rollback::walk_back(sheet, numbers, defaults, premiums, position, count);
+        self.position = position - count;
+        Ok(position - count)
+    }
+
+    // What value answers.
+    fn worth(
+        self,
+        sheet: Sheet,
+        numbers: &[u64],
+        register: &[u8],
+        defaults: &[u64],
+        premiums: &[u64],
+        tranche: usize,
+        count: usize,
+    ) -> Result<Worth, Refusal>
+        ensures { left worth_answer result self defaults.now premiums.now
+            ≡ value_call (brought_in sheet numbers.now) register.now self
+            (rows_of defaults.now premiums.now) tranche count }
+    {
+        self.admitted(sheet, numbers, register, defaults, premiums)?;
+        if sheet.pool.tranches < tranche || sheet.pool.names < count {
+            return Err(Refusal::OffTree);
         }
-        if sheet.pool.names <= count {
-            return Reply {
-                answer: Answer::Refused(Refusal::OffTree),
-                walk: self,
-            };
+        Ok(replies::worth_at(sheet, numbers, defaults, premiums, tranche, count))
+    }
+
+    // What hedge ratio answers.
+    fn ratio(
+        self,
+        sheet: Sheet,
+        numbers: &[u64],
+        register: &[u8],
+        defaults: &[u64],
+        premiums: &[u64],
+        tranche: usize,
+        count: usize,
+    ) -> Result<i64, Refusal>
+        ensures { left ratio_answer result self defaults.now premiums.now
+            ≡ ratio_call (brought_in sheet numbers.now) register.now self
+            (rows_of defaults.now premiums.now) tranche count }
+    {
+        self.admitted(sheet, numbers, register, defaults, premiums)?;
+        if sheet.pool.tranches < tranche || sheet.pool.names <= count {
+            return Err(Refusal::OffTree);
         }
         let own = figures::jump_at(sheet, numbers, defaults, premiums, tranche, count);
         let last = sheet.pool.tranches;
         let index = figures::jump_at(sheet, numbers, defaults, premiums, last, count);
-        Reply {
-            answer: replies::ratio_of(own, index),
-            walk: self,
-        }
+        replies::ratio_of(own, index)
     }
 }
 
@@ -244,19 +264,16 @@ pub fn judge_forward(
     register: &[u8],
     row: &[u64],
     steps: usize,
-) -> Found
+) -> Result<(), Refusal>
     ensures { result
         ≡ first (forward_tests (brought_in sheet numbers.now) register.now row.now steps) }
 {
     let lent = admission::row_differs(sheet.pool, register, row);
-    let found = admission::to_ten(sheet, numbers, register, lent);
-    if let Found::Refused(f) = found {
-        return Found::Refused(f);
-    }
+    admission::to_ten(sheet, numbers, register, lent)?;
     if sheet.pool.steps < steps {
-        return Found::Refused(Refusal::OutOfSteps);
+        return Err(Refusal::OutOfSteps);
     }
-    Found::Fine
+    Ok(())
 }
 
 // The distribution of the default count after so many steps, from no default.
@@ -266,18 +283,15 @@ pub fn forward(
     register: &[u8],
     row: &mut [u64],
     steps: usize,
-) -> Answer
+) -> Result<(), Refusal>
     ensures gives { forward_outcome result row.new
         ≡ forward_call (brought_in sheet numbers.now) register.now row.old steps }
     ensures rule { ForwardRule (brought_in sheet numbers.now) register.now
         row.old steps (forward_result (forward_outcome result row.new)) }
 {
-    let found = judge_forward(sheet, numbers, register, row, steps);
-    if let Found::Refused(f) = found {
-        return Answer::Refused(f);
-    }
+    judge_forward(sheet, numbers, register, row, steps)?;
     let starts = sheet::part(sheet.starts, numbers);
     let hazards = sheet::part(sheet.hazards, numbers);
     forward::distribute(sheet.pool.names, starts, hazards, row, steps);
-    Answer::Done
+    Ok(())
 }

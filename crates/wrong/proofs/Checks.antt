@@ -1,15 +1,10 @@
 -- No engine with a wrong check keeps to the rules: they admit ours alone, which answers the call that shows the fault otherwise.
-use Prim.Native.Nat.{ℕ, zero, suc, pred, ◌+◌, ◌-◌, ◌*◌}
-use mathlib.Core.Path.{◌≡◌, refl, sym, ◌∙◌, ap, subst}
-use mathlib.Core.Bool.{Bool, true, false, not, ◌&&◌, ◌||◌, true≢false}
-use mathlib.Core.List.{List, [], ◌∷◌, map}
-use native.Mathlib.Omega.{arith}
-use lib.ListN.{length, get_or}
-use lib.Dec.{leb, ltb, eqb, leb-suc-suc, leb-suc-zero, eqb-suc-zero}
-use lib.IntN.{ℤ}
-use borrow.Author.Tests.{eqb-true, eqb-false, not-true}
+use Rattle.std.proofs.Common.{ℕ, zero, suc, pred, ◌+◌, ◌-◌, ◌*◌, ◌≡◌, refl, sym, ◌∙◌, ap, subst, Bool, true, false, not, ◌&&◌, ◌||◌, true≢false, List}
+use Rattle.std.proofs.Common.{[], ◌∷◌, map, arith, length, get_or, leb, ltb, eqb, ℤ, eqb-true}
+use lib.Dec.{leb-suc-suc, leb-suc-zero, eqb-suc-zero}
+use borrow.Author.Tests.{eqb-false, not-true}
 use Rattle.hedges.specs.Hedges.{ratio_of}
-use Rattle.register.proofs.Masks.{both}
+use Rattle.std.proofs.lemmas.Bool.{and_parts as both}
 use Rattle.sheet.specs.Terms.{sum_of}
 use Rattle.tree.specs.Sheet.{default_most, premium_most}
 use Rattle.rows.specs.Tables.{any}
@@ -21,7 +16,7 @@ use Rattle.lists.specs.Outside.{outside}
 use Rattle.refusals.specs.Tests.{differs, pool_bad, lists_bad, Test, first}
 use Rattle.admission.specs.LentTests.{rows_bad}
 use Rattle.walk.specs.declared.Walk.{Walk}
-use Rattle.figures.specs.declared.Answer.TheVariants as Answer
+use Rattle.figures.specs.Answer as Answer
 use Rattle.rows.specs.Rows.{Rows, row_length}
 use Rattle.walk.specs.CallRules.{WalkResult}
 use Rattle.figures.specs.Nodes.{jump}

@@ -1,6 +1,5 @@
 -- The examples, by computation.
-use mathlib.Core.Path.{refl}
-use mathlib.Core.Bool.{false}
+use Rattle.std.proofs.Common.{refl, false}
 use Rattle.tree.specs.Sheet.{spanning}
 use Rattle.refusals.proofs.Limits.{limits}
 use Rattle.walk.specs.Risk.{hedging}

@@ -1,11 +1,5 @@
 -- No engine of specs/Figures.antt keeps the promise, and the bounds need their factor: by computation on small sheets.
-use Prim.Native.Nat.{ℕ, ◌-◌}
-use mathlib.Core.Path.{◌≡◌, refl, ap}
-use mathlib.Core.Bool.{true, false}
-use mathlib.Core.List.{[], ◌∷◌}
-use native.Mathlib.Omega.{arith}
-use lib.ListN.{replicate}
-use lib.Dec.{le→leb, lit≤}
+use Rattle.std.proofs.Common.{ℕ, ◌-◌, ◌≡◌, refl, ap, true, false, [], ◌∷◌, arith, replicate, le→leb, lit≤}
 use Rattle.cash.specs.Sums.{sum_to}
 use Rattle.tree.specs.Forward.{lands, probability, apart, errors}
 use Rattle.tree.specs.Sheet.{spanning}

@@ -1,14 +1,8 @@
 -- No wrong engine keeps the promise: a list of calls on a small sheet, and the part of the promise that fails where it ends.
-use Prim.Native.Nat.{ℕ, ◌+◌, ◌-◌, ◌*◌}
-use mathlib.Core.Path.{◌≡◌, refl, sym, ap, subst}
-use mathlib.Core.Bool.{Bool, true, false, cond, true≢false}
-use mathlib.Core.List.{List, [], ◌∷◌}
+use Rattle.std.proofs.Common.{ℕ, ◌+◌, ◌-◌, ◌*◌, ◌≡◌, refl, sym, ap, subst, Bool, true, false, cond, true≢false, List, [], ◌∷◌, ◌⊎◌, inl, inr, arith}
+use Rattle.std.proofs.Common.{length, replicate, get_or, set, T, eqb, le→leb, lit≤, ℤ, pos, negsuc}
 use mathlib.Core.Option.{some}
-use mathlib.Core.Logic.{◌⊎◌, inl, inr}
-use native.Mathlib.Omega.{arith}
-use lib.ListN.{length, replicate, get_or, set}
-use lib.Dec.{T, eqb, eqb_refl, le→leb, lit≤}
-use lib.IntN.{ℤ, pos, negsuc}
+use lib.Dec.{eqb_refl}
 use Rattle.register.specs.Rules.{Unissued, Live}
 use Rattle.register.specs.Events.{blank_register}
 use Rattle.sheet.specs.Terms.{Terms}

@@ -15,7 +15,7 @@ use Rattle.refusals.specs.Refusals.{refusal_number}
 use Rattle.lists.specs.Outside.{outside}
 use Rattle.refusals.specs.Tests.{differs, Test, first}
 use Rattle.walk.specs.declared.Walk.{Walk}
-use Rattle.figures.specs.declared.Answer.TheVariants as Answer
+use Rattle.figures.specs.Answer as Answer
 use Rattle.walk.specs.Answers.{fresh}
 use Rattle.figures.specs.Nodes.{jump}
 use Rattle.admission.specs.LentTests.{rows_bad, is_withdrawn, is_unissued}

@@ -1,10 +1,8 @@
 -- The first ten checks, then the walk, then the rows.
-use mathlib.Core.Path.{◌≡◌, sym, ◌∙◌}
-use mathlib.Core.Bool.{false}
-use mathlib.Core.List.{[]}
+use Rattle.std.proofs.Common.{◌≡◌, sym, ◌∙◌, false, [], Ok}
 use Rattle.sheet.specs.Brought.{Brought}
 use Rattle.sheet.specs.Spans.{brought_in}
-use Rattle.refusals.specs.declared.Found.TheVariants.{Fine}
+use Rattle.std.proofs.lemmas.Result.{err_from_is_err_and}
 use Rattle.refusals.specs.Tests.{first, pool_bad}
 use Rattle.rows.specs.Rows.{Rows, rows_of}
 use Rattle.admission.specs.LentTests.{rows_bad, off_walk, ten_tests}
@@ -14,19 +12,20 @@ use Rattle.sheet.proofs.Limits.{limits_terms}
 use Rattle.admission.proofs.Admitted.{admitted_limits, admitted_defaults, admitted_premiums}
 use Rattle.admission.proofs.to_twelve.Goals as goal
 
-pub returns-in-Refused : goal.returns-in-Refused
-returns-in-Refused c =
+pub returns-in_err-to_ten : goal.returns-in_err-to_ten
+returns-in_err-to_ten c =
     let sheet : Brought = brought_in c.args.sheet c.args.numbers.now in
     let rows : Rows = rows_of c.args.defaults.now c.args.premiums.now in
     let told : pool_bad sheet.sheet ≡ false → c.rows_differ-lent.result ≡ rows_bad sheet c.args.register.now rows = rows_told _ _ _ _ _ _ _ _ _ _ c.rows_differ-lent.ensures in
-    sym (twelve_ten sheet c.args.register.now c.args.is_open c.args.number c.args.position rows _ told (sym c.in-Refused.ensures))
+    let p = err_from_is_err_and c.from_residual.result c.from_residual.ensures.1 in
+    rw (p.1, p.2) (sym (twelve_ten sheet c.args.register.now c.args.is_open c.args.number c.args.position rows _ told (sym c.in_err-to_ten.ensures)))
 
 pub returns-then-off_walk : goal.returns-then-off_walk
 returns-then-off_walk c =
     let sheet : Brought = brought_in c.args.sheet c.args.numbers.now in
     let rows : Rows = rows_of c.args.defaults.now c.args.premiums.now in
     let told : pool_bad sheet.sheet ≡ false → c.rows_differ-lent.result ≡ rows_bad sheet c.args.register.now rows = rows_told _ _ _ _ _ _ _ _ _ _ c.rows_differ-lent.ensures in
-    let ten : first (ten_tests sheet c.args.register.now c.rows_differ-lent.result []) ≡ Fine = sym c.in_default.ensures in
+    let ten : first (ten_tests sheet c.args.register.now c.rows_differ-lent.result []) ≡ Ok tt = sym c.in_ok-to_ten.ensures in
     let off : c.off_walk.result ≡ off_walk sheet c.args.is_open c.args.number c.args.position = walk_told _ _ _ _ _ _ _ _ _ _ _ c.off_walk.ensures in
     sym (twelve_walk sheet c.args.register.now c.args.is_open c.args.number c.args.position rows _ told ten (sym off ∙ c.if-off_walk.true))
 
@@ -34,7 +33,7 @@ pub is_soiled-requires : goal.is_soiled-requires
 is_soiled-requires c = let sheet : Brought = brought_in c.args.sheet c.args.numbers.now in
     let rows : Rows = rows_of c.args.defaults.now c.args.premiums.now in
     let told : pool_bad sheet.sheet ≡ false → c.rows_differ-lent.result ≡ rows_bad sheet c.args.register.now rows = rows_told _ _ _ _ _ _ _ _ _ _ c.rows_differ-lent.ensures in
-    let ten : first (ten_tests sheet c.args.register.now c.rows_differ-lent.result []) ≡ Fine = sym c.in_default.ensures in
+    let ten : first (ten_tests sheet c.args.register.now c.rows_differ-lent.result []) ≡ Ok tt = sym c.in_ok-to_ten.ensures in
     record { terms_within = limits_terms sheet (admitted_limits _ _ rows _ told ten); defaults_len = (admitted_defaults _ _ rows _ told ten, admitted_premiums _ _ rows _ told ten) }
 
 pub returns-then-is_soiled : goal.returns-then-is_soiled
@@ -42,7 +41,7 @@ returns-then-is_soiled c =
     let sheet : Brought = brought_in c.args.sheet c.args.numbers.now in
     let rows : Rows = rows_of c.args.defaults.now c.args.premiums.now in
     let told : pool_bad sheet.sheet ≡ false → c.rows_differ-lent.result ≡ rows_bad sheet c.args.register.now rows = rows_told _ _ _ _ _ _ _ _ _ _ c.rows_differ-lent.ensures in
-    let ten : first (ten_tests sheet c.args.register.now c.rows_differ-lent.result []) ≡ Fine = sym c.in_default.ensures in
+    let ten : first (ten_tests sheet c.args.register.now c.rows_differ-lent.result []) ≡ Ok tt = sym c.in_ok-to_ten.ensures in
     let off : c.off_walk.result ≡ off_walk sheet c.args.is_open c.args.number c.args.position = walk_told _ _ _ _ _ _ _ _ _ _ _ c.off_walk.ensures in
     sym (twelve_over sheet c.args.register.now c.args.is_open c.args.number c.args.position rows _ told ten (sym off ∙ c.if-off_walk.false) (sym c.is_soiled.ensures ∙ c.if-is_soiled.true))
 
@@ -51,6 +50,6 @@ returns c =
     let sheet : Brought = brought_in c.args.sheet c.args.numbers.now in
     let rows : Rows = rows_of c.args.defaults.now c.args.premiums.now in
     let told : pool_bad sheet.sheet ≡ false → c.rows_differ-lent.result ≡ rows_bad sheet c.args.register.now rows = rows_told _ _ _ _ _ _ _ _ _ _ c.rows_differ-lent.ensures in
-    let ten : first (ten_tests sheet c.args.register.now c.rows_differ-lent.result []) ≡ Fine = sym c.in_default.ensures in
+    let ten : first (ten_tests sheet c.args.register.now c.rows_differ-lent.result []) ≡ Ok tt = sym c.in_ok-to_ten.ensures in
     let off : c.off_walk.result ≡ off_walk sheet c.args.is_open c.args.number c.args.position = walk_told _ _ _ _ _ _ _ _ _ _ _ c.off_walk.ensures in
     sym (twelve_clean sheet c.args.register.now c.args.is_open c.args.number c.args.position rows _ told ten (sym off ∙ c.if-off_walk.false) (sym c.is_soiled.ensures ∙ c.if-is_soiled.false))

@@ -1,6 +1,5 @@
 -- `amounts::put_padded` meets its contract.
-use Prim.Native.Nat.{◌-◌, ◌/◌}
-use native.Mathlib.Omega.{arith}
+use Rattle.std.proofs.Common.{◌-◌, ◌/◌, arith}
 use Rattle.amounts.proofs.Digits.{length_padded, padded_end, padded_step}
 use Rattle.amounts.proofs.+put_padded.Goals as goal
 

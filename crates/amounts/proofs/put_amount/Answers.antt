@@ -1,8 +1,5 @@
 -- `amounts::put_amount` meets its contract: the units alone, or nine digits of them behind the billions.
-use Prim.Native.Nat.{◌+◌, ◌≤◌}
-use mathlib.Core.Path.{◌≡◌, ap}
-use native.Mathlib.Omega.{arith}
-use lib.ListN.{length, length-append}
+use Rattle.std.proofs.Common.{◌+◌, ◌≤◌, ◌≡◌, ap, arith, length, length-append}
 use Rattle.lines.specs.Text.{decimal}
 use Rattle.lines.proofs.Laws.{wrote_both, wrote_text}
 use Rattle.amounts.specs.declared.Amount.{Amount}

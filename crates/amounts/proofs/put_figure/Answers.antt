@@ -1,6 +1,5 @@
 -- `amounts::put_figure` meets its contract.
-use native.Mathlib.Omega.{arith}
-use lib.ListN.{length-set}
+use Rattle.std.proofs.Common.{arith, length-set}
 use Rattle.lines.specs.Text.{field}
 use Rattle.lines.proofs.Laws.{wrote_after}
 use Rattle.amounts.proofs.put_figure.Goals as goal

@@ -1,7 +1,5 @@
 -- `amounts::put_signed` meets its contract.
-use mathlib.Core.Path.{ap, sym}
-use native.Mathlib.Omega.{arith}
-use lib.ListN.{length, length-set}
+use Rattle.std.proofs.Common.{ap, sym, arith, length, length-set}
 use Rattle.lines.proofs.Laws.{wrote_after, wrote_text}
 use Rattle.amounts.proofs.Amounts.{minus, plus}
 use Rattle.amounts.proofs.put_signed.Goals as goal

@@ -1,5 +1,5 @@
 -- `book::store_line` meets its contract: the name, three figures and the end, one behind the other.
-use native.Mathlib.Omega.{arith}
+use Rattle.std.proofs.Common.{arith}
 use Rattle.lines.proofs.Laws.{wrote_both}
 use Rattle.amounts.specs.Amounts.{figure_of}
 use Rattle.book.specs.Lines.{line_of}

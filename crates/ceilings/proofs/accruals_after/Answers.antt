@@ -1,30 +1,26 @@
--- `ceilings::accruals_after` meets its contract. The loop's invariant: the sum is that of the accruals from `i` on.
-use borrow.Author.Rules.{rules}
-use Prim.Native.Nat.{◌+◌, ◌-◌}
-use mathlib.Core.Path.{◌≡◌, sym, ◌∙◌}
-use lib.ListN.{get_or, drop}
-use native.Mathlib.Omega.{arith}
-use native.Mathlib.Nat.{le_refl}
+-- What is left after the step, or nothing past the end.
+use Rattle.std.proofs.Common.{ℕ, ◌-◌, ◌≡◌, ap, sym, ◌∙◌, arith, List, length, take, drop, length-drop}
+use lib.Seq.{take-length}
+use Rattle.std.proofs.lemmas.Iterator.{YieldsList-from_slice}
+use Rattle.std.proofs.lemmas.Iterator.Consumers.{fits_from_yields_list, sum_from_yields_List}
 use Rattle.cash.specs.Units.{B}
-use Rattle.sheet.specs.Terms.{sum_of}
-use Rattle.rows.proofs.Sums.{sum_drop_most, sum_drop_past, sum_drop_before, sum_drop_from}
+use Rattle.rows.proofs.Sums.{sum_listed, sum_drop_most, sum_drop_from}
 use Rattle.ceilings.proofs.accruals_after.Goals as goal
 
-pub loop-i-init : goal.loop-i-init
-loop-i-init c = (search rules, (omega arith, sym (sum_drop_past _ c.args.accruals.now (le_refl _))))
+-- a part to the end is what is left
+part_left : (l : List ℕ) (from : ℕ) → take (length l - from) (drop from l) ≡ drop from l
+part_left l from = ap (λ (n : ℕ). take n (drop from l)) (sym (length-drop from l)) ∙ take-length (drop from l)
 
-pub overflow_add-sum : goal.overflow_add-sum
+pub sum-requires-clause-fits : goal.sum-requires-clause-fits
 unfolding B
-overflow_add-sum c =
-    let more : c.loop-i.sum + get_or c.args.accruals.now (c.loop-i.i - 1) 0 ≡ sum_of (drop (c.loop-i.i - 1) c.args.accruals.now) = sum_drop_before c.loop-i.i _ _ (omega arith) c.loop-i.invariant.0 c.loop-i.invariant.1.1 in
-    omega (arith, more, sum_drop_most (c.loop-i.i - 1) c.args.accruals.now, c.requires)
-
-pub loop-i-preserved : goal.loop-i-preserved
-loop-i-preserved c =
-    let more : c.loop-i.sum + get_or c.args.accruals.now (c.loop-i.i - 1) 0 ≡ sum_of (drop (c.loop-i.i - 1) c.args.accruals.now) = sum_drop_before c.loop-i.i _ _ (omega arith) c.loop-i.invariant.0 c.loop-i.invariant.1.1 in
-    (omega arith, (omega arith, more))
+sum-requires-clause-fits c =
+    let later = drop c.min.result c.args.accruals.now in
+    fits_from_yields_list c.iter.result _ (YieldsList-from_slice later (c.iter.ensures.rest ∙ part_left c.args.accruals.now c.min.result))
+    (omega (arith, sum_listed later, sum_drop_most c.min.result c.args.accruals.now, c.requires))
 
 pub returns : goal.returns
 returns c =
-    let v = c.loop-i.invariant in
-    v.1.1 ∙ sum_drop_from c.loop-i.i c.args.position _ (omega arith)
+    let later = drop c.min.result c.args.accruals.now in
+    sum_from_yields_List c.iter.result _ c.sum.ensures.ran (YieldsList-from_slice later (c.iter.ensures.rest ∙ part_left c.args.accruals.now c.min.result))
+    ∙ sum_listed later
+    ∙ sum_drop_from c.min.result c.args.position c.args.accruals.now c.min.ensures

@@ -1,8 +1,5 @@
 -- The attachment points and accruals are parts of the sheet's numbers; the part of its array is as long as the counts of a sheet.
-use Prim.Native.Nat.{◌+◌, ◌≤◌}
-use mathlib.Core.Path.{refl, sym, ◌∙◌}
-use native.Mathlib.Numerals.{add-one}
-use native.Mathlib.Omega.{arith}
+use Rattle.std.proofs.Common.{◌+◌, ◌≤◌, refl, sym, ◌∙◌, add-one, arith}
 use Rattle.sheet.proofs.Limits.{tranches_bare}
 use Rattle.rows.proofs.Lent.{front}
 use Rattle.ceilings.proofs.Found.{soiled_part}

@@ -1,6 +1,5 @@
 -- The search with the losses of the sheet.
-use mathlib.Core.Path.{◌∙◌}
-use mathlib.Core.List.{[]}
+use Rattle.std.proofs.Common.{◌∙◌, []}
 use Rattle.ceilings.proofs.Found.{soiled_is}
 use Rattle.ceilings.proofs.soiled_with_losses.Goals as goal
 

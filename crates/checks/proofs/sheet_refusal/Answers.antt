@@ -1,6 +1,5 @@
 -- The pool, then the lengths, then the figures.
-use mathlib.Core.Path.{◌≡◌, sym, ◌∙◌}
-use mathlib.Core.Bool.{false}
+use Rattle.std.proofs.Common.{◌≡◌, sym, ◌∙◌, true, false, ◌||◌, ⊎_elim}
 use Rattle.sheet.specs.Brought.{Brought}
 use Rattle.sheet.specs.Spans.{brought_in}
 use Rattle.refusals.specs.Tests.{sheet_tests, pool_bad, lists_bad}
@@ -25,14 +24,9 @@ unfolding sheet_tests pool_bad
 returns-then-lists_differ c =
     let X : Brought = brought_in c.args.sheet c.args.numbers.now in
     let pool-kept : pool_bad X.sheet ≡ false = sym c.pool_outside.ensures ∙ c.if-pool_outside.false in
-    sym (first_passed _ _ _ pool-kept ∙ first_met _ _ _ (met_left _ _ (sym c.lists_differ.ensures ∙ c.if-lists_differ.true)))
-
-pub returns-then-lent : goal.returns-then-lent
-unfolding sheet_tests pool_bad
-returns-then-lent c =
-    let X : Brought = brought_in c.args.sheet c.args.numbers.now in
-    let pool-kept : pool_bad X.sheet ≡ false = sym c.pool_outside.ensures ∙ c.if-pool_outside.false in
-    sym (first_passed _ _ _ pool-kept ∙ first_met _ _ _ (met_right (lists_bad X) _ c.if-lent.true))
+    let bad : (lists_bad X || c.args.lent) ≡ true =
+    ⊎_elim (λ h. met_left _ _ (sym c.lists_differ.ensures ∙ h)) (λ h. met_right (lists_bad X) _ h.1) c.then-lists_differ.either in
+    sym (first_passed _ _ _ pool-kept ∙ first_met _ _ _ bad)
 
 pub figures_refusal-requires : goal.figures_refusal-requires
 unfolding pool_bad

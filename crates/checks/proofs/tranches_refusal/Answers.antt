@@ -1,7 +1,5 @@
 -- The recovery, then the attachment points.
-use borrow.Author.Tests.{lt-ltb, le-ltb}
-use mathlib.Core.Path.{◌≡◌, sym, ap, ◌∙◌}
-use lib.ListN.{length}
+use Rattle.std.proofs.Common.{lt-ltb, le-ltb, ◌≡◌, sym, ap, ◌∙◌, length}
 use Rattle.cash.specs.Units.{B}
 use Rattle.sheet.specs.Spans.{terms_in}
 use Rattle.refusals.specs.Tests.{recovery_bad, attachments_bad}

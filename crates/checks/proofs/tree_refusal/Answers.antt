@@ -1,8 +1,5 @@
 -- The starts, then the hazards, then the discounts, then the accruals, then the elapsed fractions.
-use mathlib.Core.Path.{◌≡◌, sym, ap, ◌∙◌}
-use mathlib.Core.Bool.{false}
-use mathlib.Core.List.{List, ◌∷◌}
-use lib.ListN.{length}
+use Rattle.std.proofs.Common.{◌≡◌, sym, ap, ◌∙◌, false, List, ◌∷◌, length}
 use Rattle.cash.specs.Units.{B}
 use Rattle.sheet.specs.Terms.{Terms}
 use Rattle.sheet.specs.Spans.{terms_in}

@@ -1,16 +1,11 @@
 -- `deck::run_on` meets its contract.
-use Prim.Native.Nat.{ℕ, ◌≤◌, ◌<◌}
-use mathlib.Core.Path.{◌≡◌, refl, ◌∙◌}
-use mathlib.Core.List.{List}
-use native.Mathlib.Omega.{arith}
+use Rattle.std.proofs.Common.{ℕ, ◌≤◌, ◌<◌, refl, ◌∙◌, subst, arith, lit<, length, replicate, rules}
+use Rattle.lines.specs.Text.{Wrote}
+use Rattle.render.specs.Lines.{deck_line}
 use Rattle.listings.proofs.Laws.{oversized, oversized_left, sized, sized_left}
 use Rattle.deck.proofs.Printing.{room_least, room_sized, no_room, no_room_left, left, keeps, printed}
-use lib.Dec.{lit<}
-use lib.ListN.{length, replicate}
 use Rattle.entries.proofs.Blanks.{blank_first, blank_set}
-use Rattle.listings.specs.Withdrawals.{KeepsWithdrawn}
-use Rattle.deck.specs.Printing.{room as room_of, register_left}
-use borrow.Author.Rules.{rules}
+use Rattle.deck.specs.Printing.{room as room_of}
 use Rattle.deck.proofs.run_on.Goals as goal
 
 pub returns-then-out-room : goal.returns-then-out-room
@@ -34,7 +29,8 @@ returns-then-deck-gt-MOST c =
     record {
       prints =
           printed c.args.register.now c.args.deck.now c.args.out.now _ _ _ fits
-          (oversized c.args.register.now c.args.deck.now long) c.put_deck.ensures.writes
+          (oversized c.args.register.now c.args.deck.now long)
+          (subst (λ (n : ℕ). Wrote c.args.out.now 0 (deck_line n 65536) c.put_deck.new.out c.put_deck.result) c.from.ensures c.put_deck.ensures.writes)
           (omega (arith, c.if-out-room.false, c.room.ensures, room_least (length c.args.deck.now), c.put_deck.ensures.short));
       leaves = leaves;
       lasts = keeps c.args.register.now c.args.deck.now c.args.out.now leaves;

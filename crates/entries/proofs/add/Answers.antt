@@ -12,16 +12,16 @@ pub returns-in-Attachment : goal.returns-in-Attachment
 returns-in-Attachment c =
     let a = c.args in
     let q = c.requires in
-    let t = c.append-attachments.ensures in
-    let m = attachment_adds a.entry a.layout a.numbers.now q.layout_limits q.numbers_value c.in-Attachment.is t.longer t.stores in
+    let t = c.append.ensures in
+    let m = attachment_adds a.entry a.layout a.numbers.now q.layout_limits q.free c.in-Attachment.is t.longer t.stores in
     record { limits = m.0; adds = m.1 }
 
 pub returns-in-Hazard : goal.returns-in-Hazard
 returns-in-Hazard c =
     let a = c.args in
     let q = c.requires in
-    let t = c.append-hazards.ensures in
-    let m = hazard_adds a.entry a.layout a.numbers.now q.layout_limits q.numbers_value c.in-Hazard.is t.longer t.stores in
+    let t = c.append-in-Hazard.ensures in
+    let m = hazard_adds a.entry a.layout a.numbers.now q.layout_limits q.free c.in-Hazard.is t.longer t.stores in
     record { limits = m.0; adds = m.1 }
 
 pub add_step-requires : goal.add_step-requires
@@ -29,7 +29,7 @@ add_step-requires c =
     let a = c.args in
     record {
       layout_limits = c.requires.layout_limits;
-      numbers_value = room_as c.in-Step.is a.layout a.numbers.now c.requires.numbers_value;
+      free = room_as c.in-Step.is a.layout a.numbers.now c.requires.free;
     }
 
 pub returns-in-Step : goal.returns-in-Step
@@ -41,8 +41,8 @@ pub returns-in-Coupon : goal.returns-in-Coupon
 returns-in-Coupon c =
     let a = c.args in
     let q = c.requires in
-    let t = c.append-coupons.ensures in
-    let m = coupon_adds a.entry a.layout a.numbers.now q.layout_limits q.numbers_value c.in-Coupon.is t.longer t.stores in
+    let t = c.append-in-Coupon.ensures in
+    let m = coupon_adds a.entry a.layout a.numbers.now q.layout_limits q.free c.in-Coupon.is t.longer t.stores in
     record { limits = m.0; adds = m.1 }
 
 pub add_elapsed-requires : goal.add_elapsed-requires
@@ -50,7 +50,7 @@ add_elapsed-requires c =
     let a = c.args in
     record {
       layout_limits = c.requires.layout_limits;
-      numbers_value = room_as c.in-Elapsed.is a.layout a.numbers.now c.requires.numbers_value;
+      free = room_as c.in-Elapsed.is a.layout a.numbers.now c.requires.free;
     }
 
 pub returns-in-Elapsed : goal.returns-in-Elapsed

@@ -1,10 +1,8 @@
 -- `execution::obey` meets its contract.
-use mathlib.Core.Path.{refl}
-use native.Mathlib.Omega.{arith}
+use Rattle.std.proofs.Common.{refl, arith}
 use Rattle.commands.proofs.Laws.{order_some}
 use Rattle.execution.specs.Executions.{machine_at}
 use Rattle.execution.proofs.EffectLaws.{order_executed}
-use borrow.Author.Rules.{rules}
 use Rattle.execution.proofs.obey.Goals as goal
 
 pub overflow_add-result : goal.overflow_add-result
@@ -21,5 +19,4 @@ returns c = record {
       (machine_at c.args.from c.args.numbers.now c.args.register.now c.args.defaults.now c.args.premiums.now
       c.args.row.now)
       _ c.act-response.ensures.acts c.put_line.ensures.writes c.put_line.ensures.short c.order_size.ensures;
-  goes = refl;
 }

@@ -1,7 +1,6 @@
 -- The answer of the walk, taken apart.
-use mathlib.Core.Path.{refl}
 use Rattle.returns.proofs.Laws.{open_returned}
 use Rattle.export.proofs.lavroudem_open.Goals as goal
 
 pub returns : goal.returns
-returns c = open_returned _ _ _ _ c.open-reply.result _ _ _ c.open-reply.ensures.gives c.number_in.ensures refl
+returns c = open_returned _ _ _ _ _ _ c.«open».result _ c.«open».ensures.gives c.into.ensures.0 c.into.ensures.1

@@ -1,5 +1,4 @@
-use mathlib.Core.Path.{sym, ◌∙◌}
-use native.Mathlib.Omega.{arith}
+use Rattle.std.proofs.Common.{sym, ◌∙◌, arith}
 use Rattle.export.specs.Bytes.{bytes_in}
 use Rattle.export.proofs.Bytes.{told_apart}
 use Rattle.export.proofs.lavroudem_run_deck.Goals as goal
@@ -7,7 +6,7 @@ use Rattle.export.proofs.lavroudem_run_deck.Goals as goal
 pub returns : goal.returns
 returns c =
     record {
-      said = c.bytes_in.ensures ∙ (λ t. bytes_in (c.run.ensures t).answer);
+      said = c.unwrap_or.ensures ∙ (λ t. bytes_in (c.run.ensures t).answer);
       leaves = λ t. (c.run.ensures t).out;
-      apart = λ h. told_apart _ _ _ _ _ c.run.ensures (omega (arith, c.well_formed, c.run.auto.out)) (sym c.bytes_in.ensures ∙ h);
+      apart = λ h. told_apart _ _ _ _ _ c.run.ensures (omega (arith, c.well_formed, c.run.auto.out)) (sym c.unwrap_or.ensures ∙ h);
     }

@@ -1,12 +1,8 @@
 -- The answer of the walk, taken apart.
-use mathlib.Core.Path.{refl, ◌∙◌}
-use mir.Syntax.{w64}
-use mir.ValLaws.{to_z-of_z}
 use Rattle.returns.proofs.Laws.{value_returned}
-use borrow.Author.Rules.{rules}
 use Rattle.export.proofs.lavroudem_value.Goals as goal
 
 pub returns : goal.returns
 returns c =
-    value_returned _ _ _ _ c.value-reply.result _ _ _ _ _ c.value-reply.ensures.gives c.number_in.ensures
-    c.default_in.ensures c.premium_in.ensures (to_z-of_z w64 _ (search rules) ∙ c.net_in.ensures) refl
+    let told = c.into.ensures in
+    value_returned _ _ _ _ _ _ c.value.result _ _ _ c.value.ensures.gives told.0 told.1 told.2 told.3 told.4

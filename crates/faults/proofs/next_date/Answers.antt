@@ -2,8 +2,8 @@
 use Rattle.faults.proofs.Elapsed.{next_here, next_after}
 use Rattle.faults.proofs.next_date.Goals as goal
 
-pub returns-then-accrual-ne0 : goal.returns-then-accrual-ne0
-returns-then-accrual-ne0 c = next_here c.args.accrual _ c.if-accrual-ne0.true
+pub returns-then-accrual-eq0 : goal.returns-then-accrual-eq0
+returns-then-accrual-eq0 c = next_after c.args.accrual _ c.if-accrual-eq0.true
 
-pub returns : goal.returns
-returns c = next_after c.args.accrual _ c.if-accrual-ne0.false
+pub returns-else-accrual-eq0 : goal.returns-else-accrual-eq0
+returns-else-accrual-eq0 c = next_here c.args.accrual _ c.if-accrual-eq0.false

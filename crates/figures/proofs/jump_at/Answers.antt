@@ -1,10 +1,6 @@
+use Rattle.std.proofs.Common.{◌≡◌, ◌∙◌, ap, suc, w64, add-one, arith}
 use borrow.Author.Rules.{sfits_of}
-use mathlib.Core.Path.{◌≡◌, ◌∙◌, ap}
-use Prim.Native.Nat.{suc}
-use mir.Syntax.{w64}
 use mir.ValLaws.{to_z-of_z}
-use native.Mathlib.Numerals.{add-one}
-use native.Mathlib.Omega.{arith}
 use Rattle.hedges.specs.Hedges.{jump_of}
 use Rattle.sheet.specs.Brought.{Brought}
 use Rattle.sheet.specs.Spans.{brought_in}
@@ -14,7 +10,7 @@ use Rattle.figures.proofs.Places.{node_figures}
 use Rattle.figures.proofs.jump_at.Goals as goal
 
 pub node_at-next-requires : goal.node_at-next-requires
-node_at-next-requires c = record { tranches_within = c.requires.tranches_within; readable = rw (add-one c.args.count) c.requires.readable_2 }
+node_at-next-requires c = record { tranches_within = c.requires.tranches_within; readable = rw (add-one c.args.count) c.requires.readable_next }
 
 pub jump-requires : goal.jump-requires
 jump-requires c =
@@ -22,7 +18,7 @@ jump-requires c =
     let rows : Rows = rows_of c.args.defaults.now c.args.premiums.now in
     let here : c.node_at-here.result ≡ node_of sheet.sheet rows c.args.tranche c.args.count = c.node_at-here.ensures in
     let next : c.node_at-next.result ≡ node_of sheet.sheet rows c.args.tranche (suc c.args.count) = c.node_at-next.ensures ∙ ap (node_of sheet.sheet rows c.args.tranche) (add-one c.args.count) in
-    (omega (arith, c.number_at.ensures, c.requires.readable.coupon), node_figures sheet rows _ _ c.requires.tranches_within c.requires.readable here, node_figures sheet rows _ _ c.requires.tranches_within c.requires.readable_2 next)
+    (omega (arith, c.number_at.ensures, c.requires.readable_here.coupon), node_figures sheet rows _ _ c.requires.tranches_within c.requires.readable_here here, node_figures sheet rows _ _ c.requires.tranches_within c.requires.readable_next next)
 
 pub returns : goal.returns
 unfolding jump

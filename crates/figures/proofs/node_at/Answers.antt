@@ -1,5 +1,4 @@
-use Prim.Native.Nat.{ℕ, ◌+◌, ◌*◌, ◌≤◌, ◌<◌}
-use native.Mathlib.Omega.{arith}
+use Rattle.std.proofs.Common.{ℕ, ◌+◌, ◌*◌, ◌≤◌, ◌<◌, arith}
 use Rattle.sheet.specs.Spans.{terms_in}
 use Rattle.figures.specs.Nodes.{node_of}
 use Rattle.rows.proofs.Lent.{enough}

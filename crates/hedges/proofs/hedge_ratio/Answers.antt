@@ -1,15 +1,10 @@
--- `hedges::hedge_ratio` meets its contract. The invariant: after `digits` digits the quotient and the rest are those of the tranche
+-- `hedges::hedge_ratio` meets its contract. The invariant: after `counter` digits the quotient and the rest are those of the tranche
 -- with so many zeros behind it, divided by the index.
-use mathlib.Core.Path.{◌≡◌, refl, sym, ◌∙◌, ap}
-use mathlib.Core.Bool.{Bool, true, false}
-use Prim.Native.Nat.{ℕ, ◌+◌, ◌*◌, ◌/◌, ◌%◌, ◌^◌, ◌≤◌, ◌<◌}
-use native.Mathlib.Nat.{mod-lt, div-lt_iff_lt-mul, div-le_self}
-use native.Mathlib.Omega.{arith}
-use lib.IntN.{ℤ, pos, nat_abs, ◌+ℤ◌, ◌-ℤ◌, ◌*ℤ◌}
+use Rattle.std.proofs.Common.{◌≡◌, refl, sym, ◌∙◌, ap, Bool, true, false, ℕ, ◌+◌, ◌*◌, ◌/◌, ◌%◌, ◌^◌, ◌≤◌, ◌<◌, mod-lt, div-lt_iff_lt-mul}
+use Rattle.std.proofs.Common.{div-le_self, arith, ℤ, pos, nat_abs, ◌+ℤ◌, ◌-ℤ◌, ◌*ℤ◌, w64, SFits, to_z, of_z}
 use lib.Signed.{quot_z, rem_z}
-use mir.Syntax.{w64}
-use mir.Val.{SFits, to_z, of_z}
-use Rattle.hedges.specs.declared.Hedge.TheVariants.{Millionths, OffScale}
+use Rattle.std.specs.declared.result.Result.TheVariants.{Ok, Err}
+use Rattle.hedges.specs.declared.NoRatio.TheVariants.{OffScale}
 use Rattle.hedges.specs.Hedges.{negative, with_sign, millionths, ratio_of, hedge_of}
 use Rattle.hedges.proofs.Machine.{fits_signed, back_signed}
 use Rattle.hedges.proofs.Negated.{read, read_is}
@@ -17,6 +12,7 @@ use Rattle.hedges.proofs.Signs.{size_of, zero_of, times}
 use Rattle.hedges.proofs.Division.{quotient_small, down, up}
 use Rattle.hedges.proofs.Long.{sign, scaled, quotient_at, rest_at, first_quotient, first_rest, digit, quotient_next, rest_next, flat, off_scale, answered, one_less, one_more}
 use Rattle.hedges.proofs.hedge_ratio.Goals as goal
+use Rattle.hedges.proofs.hedge_ratio.Goals.{Start, Else-index-eq0, In-loop, After-loop}
 
 -- ---- what is read of the two parameters is the parameters
 same : {t t' d d' : ℤ} → t' ≡ t → d' ≡ d → hedge_of t' d' ≡ hedge_of t d
@@ -60,7 +56,7 @@ module _ {t d : ℤ} (z : Sizes t d) where
       let l : scaled t 0 / nat_abs d < 1_000_000 = omega (arith, whole-size) in
       omega (arith, (div-lt_iff_lt-mul z.apart).0 l)
 
-  refused : {m : ℕ} → m ≡ nat_abs (read (quot_z t d)) → 1_000_000 ≤ m → OffScale ≡ hedge_of t d
+  refused : {m : ℕ} → m ≡ nat_abs (read (quot_z t d)) → 1_000_000 ≤ m → Err OffScale ≡ hedge_of t d
   refused e h = sym (off_scale t d z.apart (omega (arith, whole-size)))
 
   rest-small : (i : ℕ) → scaled t i % nat_abs d < nat_abs d
@@ -78,8 +74,8 @@ record Turn (t d q r : ℤ) (n : ℕ) : Type 0 where
   rest : r ≡ rest_at t d n
 
 turn : {t d q r : ℤ} {n m : ℕ} → Sizes t d → m ≡ nat_abs (read (quot_z t d)) → m < 1_000_000
-    → (n ≤ 6) × (q ≡ quotient_at t d n) × (r ≡ rest_at t d n) → Turn t d q r n
-turn z e h v = record { sizes = z; on_scale = on_scale z e h; digits = v.0; quotient = v.1; rest = v.2 }
+    → n ≤ 6 → (q ≡ quotient_at t d n) × (r ≡ rest_at t d n) → Turn t d q r n
+turn z e h l v = record { sizes = z; on_scale = on_scale z e h; digits = l; quotient = v.0; rest = v.1 }
 
 module _ {t d q r : ℤ} {n : ℕ} (v : Turn t d q r n) where
   below : (i : ℕ) → i ≤ 6 → scaled t i / nat_abs d < 1_000_000_000_000
@@ -144,11 +140,11 @@ module _ {t d q r : ℤ} {n : ℕ} (v : Turn t d q r n) (six : 6 ≤ n) where
 
   -- the ratio, where six digits and the rounding give its size
   answer : (m : ℕ) → (2 * scaled t 6 + nat_abs d) / (2 * nat_abs d) ≡ m → {w : ℤ}
-      → w ≡ with_sign (sign t d) m → Millionths w ≡ hedge_of t d
+      → w ≡ with_sign (sign t d) m → Ok w ≡ hedge_of t d
   unfolding ratio_of millionths
-  answer m e f = ap Millionths (f ∙ ap (with_sign (sign t d)) (sym e)) ∙ sym (answered t d v.sizes.apart v.on_scale)
+  answer m e f = ap Ok (f ∙ ap (with_sign (sign t d)) (sym e)) ∙ sym (answered t d v.sizes.apart v.on_scale)
 
-  rounded_down : {x y : ℕ} → x ≡ nat_abs r → y ≡ nat_abs d → x * 2 < y → Millionths q ≡ hedge_of t d
+  rounded_down : {x y : ℕ} → x ≡ nat_abs r → y ≡ nat_abs d → x * 2 < y → Ok q ≡ hedge_of t d
   rounded_down e f l = answer _ (down (scaled t 6) (nat_abs d) v.sizes.apart (omega (arith, last_rest))) last-quotient
 
   -- the ratio of six digits, one further from 0
@@ -162,100 +158,104 @@ module _ {t d q r : ℤ} {n : ℕ} (v : Turn t d q r n) (six : 6 ≤ n) where
   one-more-small = omega (arith, below v 6 (omega arith))
 
   rounded_up : {x y : ℕ} {w : ℤ} → x ≡ nat_abs r → y ≡ nat_abs d → y ≤ x * 2
-      → w ≡ with_sign (sign t d) (scaled t 6 / nat_abs d + 1) → Millionths (read w) ≡ hedge_of t d
+      → w ≡ with_sign (sign t d) (scaled t 6 / nat_abs d + 1) → Ok (read w) ≡ hedge_of t d
   rounded_up e f l g =
       answer _ (up (scaled t 6) (nat_abs d) v.sizes.apart (omega (arith, last_rest))) (back_signed _ _ g one-more-small)
+
+-- ---- what is known past the first test, in the loop, and after it
+as_given : (c : Start) → hedge_of (read c.args.tranche) (read c.args.index) ≡ hedge_of c.args.tranche c.args.index
+as_given c = same (read_is _ c.ranges.tranche) (read_is _ c.ranges.index)
+
+apart : (c : Else-index-eq0) → Sizes (read c.args.tranche) (read c.args.index)
+apart c = sizes _ _ c.ranges.tranche c.ranges.index c.requires c.if-index-eq0.false
+
+met : (c : In-loop) → Turn (read c.args.tranche) (read c.args.index) (to_z w64 c.loop.quotient-bits) (to_z w64 c.loop.rest-bits) c.loop.counter
+met c =
+    turn (sizes _ _ c.ranges.tranche c.ranges.index c.requires c.if-index-eq0.false)
+    c.unsigned_abs.ensures.value c.if-unsigned_abs-ge1000000.false c.loop.auto.counter-end c.loop.invariant
+
+ended : (c : After-loop) → Turn (read c.args.tranche) (read c.args.index) (to_z w64 c.loop.quotient-bits) (to_z w64 c.loop.rest-bits) c.loop.counter
+ended c =
+    turn (sizes _ _ c.ranges.tranche c.ranges.index c.requires c.if-index-eq0.false)
+    c.unsigned_abs.ensures.value c.if-unsigned_abs-ge1000000.false c.loop.auto.counter-end c.loop.invariant
 
 pub returns-then-index-eq0 : goal.returns-then-index-eq0
 returns-then-index-eq0 c =
     let a = c.args in
     sym (flat a.tranche a.index (ap nat_abs (sym (read_is a.index c.ranges.index) ∙ ap (to_z w64) c.if-index-eq0.true)))
 
-pub returns-then-magnitude-ge1000000 : goal.returns-then-magnitude-ge1000000
-returns-then-magnitude-ge1000000 c =
-    let z = sizes _ _ c.ranges.tranche c.ranges.index c.requires c.if-index-eq0.false in
-    refused z c.magnitude.ensures c.if-magnitude-ge1000000.true ∙ same (read_is _ c.ranges.tranche) (read_is _ c.ranges.index)
+pub returns-then-unsigned_abs-ge1000000 : goal.returns-then-unsigned_abs-ge1000000
+returns-then-unsigned_abs-ge1000000 c =
+    let z = apart (goal.at.returns-then-unsigned_abs-ge1000000 c).Else-index-eq0 in
+    refused z c.unsigned_abs.ensures.value c.if-unsigned_abs-ge1000000.true ∙ as_given (goal.at.returns-then-unsigned_abs-ge1000000 c).Start
 
-pub loop-digits-init : goal.loop-digits-init
-loop-digits-init c =
-    let z = sizes _ _ c.ranges.tranche c.ranges.index c.requires c.if-index-eq0.false in
-    (omega arith, back_signed _ _ (whole z) (whole-small z), back_signed _ _ (first_rest _ _ z.apart) (rest-fits z 0))
+pub loop-init : goal.loop-init
+loop-init c =
+    let z = apart (goal.at.loop-init c).Else-index-eq0 in
+    (back_signed _ _ (whole z) (whole-small z), back_signed _ _ (first_rest _ _ z.apart) (rest-fits z 0))
 
 pub overflow_mul-quotient : goal.overflow_mul-quotient
-overflow_mul-quotient c =
-    let z = sizes _ _ c.ranges.tranche c.ranges.index c.requires c.if-index-eq0.false in
-    ten-quotients-fit (turn z c.magnitude.ensures c.if-magnitude-ge1000000.false c.loop-digits.invariant)
+overflow_mul-quotient c = ten-quotients-fit (met c)
 
-pub overflow_mul-quotient-in-loop-digits : goal.overflow_mul-quotient-in-loop-digits
-overflow_mul-quotient-in-loop-digits c =
-    let z = sizes _ _ c.ranges.tranche c.ranges.index c.requires c.if-index-eq0.false in
-    ten-rests-fit (turn z c.magnitude.ensures c.if-magnitude-ge1000000.false c.loop-digits.invariant)
+pub overflow_mul-quotient-in-loop : goal.overflow_mul-quotient-in-loop
+overflow_mul-quotient-in-loop c = ten-rests-fit (met c)
 
-pub nonzero_div-quotient-in-loop-digits : goal.nonzero_div-quotient-in-loop-digits
-nonzero_div-quotient-in-loop-digits c =
-    let z = sizes _ _ c.ranges.tranche c.ranges.index c.requires c.if-index-eq0.false in
-    (divisor c.args.index c.if-index-eq0.false, next-digit-fits (turn z c.magnitude.ensures c.if-magnitude-ge1000000.false c.loop-digits.invariant))
+pub nonzero_div-quotient-in-loop : goal.nonzero_div-quotient-in-loop
+nonzero_div-quotient-in-loop c = (divisor c.args.index c.if-index-eq0.false, next-digit-fits (met c))
 
 pub overflow_add-quotient : goal.overflow_add-quotient
 overflow_add-quotient c =
-    let z = sizes _ _ c.ranges.tranche c.ranges.index c.requires c.if-index-eq0.false in
-    let v = turn z c.magnitude.ensures c.if-magnitude-ge1000000.false c.loop-digits.invariant in
-    fits_signed _ _ (next_quotient v) (next_quotient-small v c.loop-digits-test.true)
+    let v = met c in
+    fits_signed _ _ (next_quotient v) (next_quotient-small v c.loop-test.true)
 
 pub overflow_mul-rest : goal.overflow_mul-rest
-overflow_mul-rest c = overflow_mul-quotient-in-loop-digits c
+overflow_mul-rest c = overflow_mul-quotient-in-loop c
 
-pub nonzero_rem-rest-in-loop-digits : goal.nonzero_rem-rest-in-loop-digits
-nonzero_rem-rest-in-loop-digits c = nonzero_div-quotient-in-loop-digits c
+pub nonzero_rem-rest-in-loop : goal.nonzero_rem-rest-in-loop
+nonzero_rem-rest-in-loop c = nonzero_div-quotient-in-loop c
 
-pub loop-digits-preserved : goal.loop-digits-preserved
-loop-digits-preserved c =
-    let z = sizes _ _ c.ranges.tranche c.ranges.index c.requires c.if-index-eq0.false in
-    let v = turn z c.magnitude.ensures c.if-magnitude-ge1000000.false c.loop-digits.invariant in (
-      omega arith,
-      back_signed _ _ (next_quotient v) (next_quotient-small v c.loop-digits-test.true),
-      back_signed _ _ (next_rest v) (rest-fits z (c.loop-digits.digits + 1)),
+pub loop-preserved : goal.loop-preserved
+loop-preserved c =
+    let v = met c in (
+      back_signed _ _ (next_quotient v) (next_quotient-small v c.loop-test.true),
+      back_signed _ _ (next_rest v) (rest-fits v.sizes (c.loop.counter + 1)),
     )
 
-pub overflow_mul-magnitude : goal.overflow_mul-magnitude
-overflow_mul-magnitude c =
-    let z = sizes _ _ c.ranges.tranche c.ranges.index c.requires c.if-index-eq0.false in
-    let v = turn z c.magnitude.ensures c.if-magnitude-ge1000000.false c.loop-digits.invariant in
-    omega (arith, rests-fit v c.loop-digits-test.false c.magnitude-2.ensures)
+pub overflow_mul-unsigned_abs : goal.overflow_mul-unsigned_abs
+overflow_mul-unsigned_abs c =
+    let v = ended (goal.at.overflow_mul-unsigned_abs c).After-loop in
+    omega (arith, rests-fit v c.loop-test.false c.unsigned_abs-2.ensures.value)
 
-pub returns-then-magnitude : goal.returns-then-magnitude
-returns-then-magnitude c =
-    let z = sizes _ _ c.ranges.tranche c.ranges.index c.requires c.if-index-eq0.false in
-    let v = turn z c.magnitude.ensures c.if-magnitude-ge1000000.false c.loop-digits.invariant in
-    rounded_down v c.loop-digits-test.false c.magnitude-2.ensures c.magnitude-3.ensures c.if-magnitude.true
-    ∙ same (read_is _ c.ranges.tranche) (read_is _ c.ranges.index)
+pub returns-then-unsigned_abs : goal.returns-then-unsigned_abs
+returns-then-unsigned_abs c =
+    let v = ended (goal.at.returns-then-unsigned_abs c).After-loop in
+    rounded_down v c.loop-test.false c.unsigned_abs-2.ensures.value c.unsigned_abs-3.ensures.value c.if-unsigned_abs.true
+    ∙ as_given (goal.at.returns-then-unsigned_abs c).Start
 
 pub overflow_sub-result : goal.overflow_sub-result
 overflow_sub-result c =
-    let z = sizes _ _ c.ranges.tranche c.ranges.index c.requires c.if-index-eq0.false in
-    let v = turn z c.magnitude.ensures c.if-magnitude-ge1000000.false c.loop-digits.invariant in
-    let six = c.loop-digits-test.false in
+    let v = ended (goal.at.overflow_sub-result c).After-loop in
+    let six = c.loop-test.false in
     fits_signed _ _ (away-down v six c.unlike_signs.ensures c.if-unlike_signs.true) (one-more-small v six)
 
 pub overflow_add-result : goal.overflow_add-result
 overflow_add-result c =
-    let z = sizes _ _ c.ranges.tranche c.ranges.index c.requires c.if-index-eq0.false in
-    let v = turn z c.magnitude.ensures c.if-magnitude-ge1000000.false c.loop-digits.invariant in
-    let six = c.loop-digits-test.false in
+    let v = ended (goal.at.overflow_add-result c).After-loop in
+    let six = c.loop-test.false in
     fits_signed _ _ (away-up v six c.unlike_signs.ensures c.if-unlike_signs.false) (one-more-small v six)
 
 pub returns-then-unlike_signs : goal.returns-then-unlike_signs
 returns-then-unlike_signs c =
-    let z = sizes _ _ c.ranges.tranche c.ranges.index c.requires c.if-index-eq0.false in
-    let v = turn z c.magnitude.ensures c.if-magnitude-ge1000000.false c.loop-digits.invariant in
-    let six = c.loop-digits-test.false in
-    rounded_up v six c.magnitude-2.ensures c.magnitude-3.ensures c.if-magnitude.false (away-down v six c.unlike_signs.ensures c.if-unlike_signs.true)
-    ∙ same (read_is _ c.ranges.tranche) (read_is _ c.ranges.index)
+    let v = ended (goal.at.returns-then-unlike_signs c).After-loop in
+    let six = c.loop-test.false in
+    rounded_up v six c.unsigned_abs-2.ensures.value c.unsigned_abs-3.ensures.value c.if-unsigned_abs.false
+    (away-down v six c.unlike_signs.ensures c.if-unlike_signs.true)
+    ∙ as_given (goal.at.returns-then-unlike_signs c).Start
 
 pub returns-else-unlike_signs : goal.returns-else-unlike_signs
 returns-else-unlike_signs c =
-    let z = sizes _ _ c.ranges.tranche c.ranges.index c.requires c.if-index-eq0.false in
-    let v = turn z c.magnitude.ensures c.if-magnitude-ge1000000.false c.loop-digits.invariant in
-    let six = c.loop-digits-test.false in
-    rounded_up v six c.magnitude-2.ensures c.magnitude-3.ensures c.if-magnitude.false (away-up v six c.unlike_signs.ensures c.if-unlike_signs.false)
-    ∙ same (read_is _ c.ranges.tranche) (read_is _ c.ranges.index)
+    let v = ended (goal.at.returns-else-unlike_signs c).After-loop in
+    let six = c.loop-test.false in
+    rounded_up v six c.unsigned_abs-2.ensures.value c.unsigned_abs-3.ensures.value c.if-unsigned_abs.false
+    (away-up v six c.unlike_signs.ensures c.if-unlike_signs.false)
+    ∙ as_given (goal.at.returns-else-unlike_signs c).Start

@@ -1,9 +1,5 @@
 -- `hedges::jump` meets its contract: each change is as meant, and so is what the jump makes of them.
-use Prim.Native.Nat.{◌*◌}
-use lib.Dec.{lit<}
-use lib.IntN.{pos, ◌+ℤ◌, ◌*ℤ◌}
-use mir.Syntax.{w64}
-use mir.Val.{to_z, of_z}
+use Rattle.std.proofs.Common.{◌*◌, lit<, pos, ◌+ℤ◌, ◌*ℤ◌, w64, to_z, of_z}
 use Rattle.cash.specs.Units.{B}
 use Rattle.hedges.specs.Hedges.{change_of, jump_of}
 use Rattle.hedges.proofs.Meant.{Is, lit, nat, add, sub, mul, fits, read}

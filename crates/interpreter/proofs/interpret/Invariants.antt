@@ -1,9 +1,5 @@
 -- `interpreter::interpret` meets its contract. The loop's invariant: all that is to be printed is what stands in out and what the rest
-use Prim.Native.Nat.{◌-◌}
-use mathlib.Core.Path.{◌≡◌, refl, sym, ◌∙◌}
-use native.Mathlib.Omega.{arith}
-use lib.ListN.{length}
-use Rattle.lines.proofs.Laws.{wrote_long}
+use Rattle.std.proofs.Common.{◌-◌, ◌≡◌, length}
 use Rattle.walk.specs.Answers.{fresh}
 use Rattle.entries.specs.Draft.{empty_draft}
 use Rattle.entries.specs.Layouts.{LayoutLimits}
@@ -11,7 +7,7 @@ use Rattle.machine.specs.Machine.{machine_of, RoomLengths}
 use Rattle.execution.specs.Executions.{machine_at}
 use Rattle.listings.specs.ListingFrom.{listing_from}
 use Rattle.listings.specs.RegisterFrom.{register_from}
-use Rattle.interpreter.proofs.LoopInvariant.{Invariant, start_limits, holds_at_start, line_fits, holds_on, finished_last, finished_all}
+use Rattle.interpreter.proofs.LoopInvariant.{Invariant}
 use Rattle.interpreter.proofs.interpret.Given as goal
 
 abbrev pub invariant-loop-progress : goal.invariant-loop-progress

@@ -1,5 +1,5 @@
 -- `lines::put_decimal` meets its contract.
-use native.Mathlib.Omega.{arith}
+use Rattle.std.proofs.Common.{arith}
 use Rattle.lines.proofs.Laws.{length_small, length_large, wrote_small, wrote_large}
 use Rattle.lines.proofs.+put_decimal.Goals as goal
 

@@ -1,6 +1,5 @@
 -- `lines::put_count` meets its contract.
-use native.Mathlib.Omega.{arith}
-use lib.ListN.{length-set}
+use Rattle.std.proofs.Common.{arith, length-set}
 use Rattle.lines.specs.Text.{signed, field}
 use Rattle.lines.proofs.Laws.{wrote_after}
 use Rattle.lines.proofs.put_count.Goals as goal

@@ -1,9 +1,5 @@
 -- `lines::put_field` meets its contract.
-use mathlib.Core.Path.{ap}
-use mathlib.Core.List.{List, ◌∷◌}
-use Prim.Native.Nat.{ℕ}
-use native.Mathlib.Omega.{arith}
-use lib.ListN.{length, length-set}
+use Rattle.std.proofs.Common.{ap, List, ◌∷◌, ℕ, arith, length, length-set}
 use Rattle.lines.specs.Text.{signed, field}
 use Rattle.lines.proofs.Laws.{wrote_after, wrote_text}
 use Rattle.hedges.proofs.Negated.{read_is}

@@ -1,14 +1,6 @@
 -- `lines::put_signed` meets its contract.
-use Prim.Native.Nat.{ℕ}
-use mathlib.Core.Bool.{true, false}
-use mathlib.Core.Path.{◌≡◌, ap, ◌∙◌, sym}
-use mathlib.Core.List.{◌∷◌}
-use native.Mathlib.Omega.{arith}
-use lib.IntN.{ℤ, pos, nat_abs}
-use lib.ListN.{length, length-set}
+use Rattle.std.proofs.Common.{ℕ, true, false, ◌≡◌, ap, ◌∙◌, sym, ◌∷◌, arith, ℤ, pos, nat_abs, length, length-set, w64, SFits}
 use lib.Signed.{lt_z}
-use mir.Syntax.{w64}
-use mir.Val.{SFits}
 use Rattle.lines.specs.Text.{decimal, signed}
 use Rattle.lines.proofs.Laws.{wrote_after, wrote_text}
 use Rattle.hedges.proofs.Negated.{read, read_is}

@@ -4,7 +4,7 @@ use Rattle.deck.proofs.Printing.{printed_within}
 use Rattle.listing.proofs.print.Goals as goal
 
 pub slice_bounds-write_all-end : goal.slice_bounds-write_all-end
-slice_bounds-write_all-end g c = printed_within _ _ _ _ _ c.in-Printed.ensures
+slice_bounds-write_all-end g c = printed_within _ _ _ _ _ c.in-Ok.ensures
 
-pub slice_bounds-write_all-end-in-Printed : goal.slice_bounds-write_all-end-in-Printed
-slice_bounds-write_all-end-in-Printed g c = sym (length-take-le _ _ (printed_within _ _ _ _ _ c.in-Printed.ensures))
+pub slice_bounds-write_all-end-2 : goal.slice_bounds-write_all-end-2
+slice_bounds-write_all-end-2 g c = sym (length-take-le _ _ (printed_within _ _ _ _ _ c.in-Ok.ensures))

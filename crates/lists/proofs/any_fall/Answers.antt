@@ -1,19 +1,10 @@
--- `lists::any_fall` meets its contract. The numbers below i rise.
-use native.Mathlib.Omega.{arith}
-use borrow.Author.Rules.{rules}
-use Rattle.lists.proofs.Loops.{passed_none, risen_more, fall_found, fall_missed}
+-- A list that does not rise falls somewhere.
+use Rattle.std.proofs.Common.{rules, tests, ltb}
+use Rattle.std.proofs.lemmas.List.Sorted.{answers_always}
+use Rattle.lists.proofs.Loops.{any_fallen}
 use Rattle.lists.proofs.any_fall.Goals as goal
 
-pub loop-i-init : goal.loop-i-init
-loop-i-init c = (search rules, passed_none _)
-
-pub returns-then-list-i : goal.returns-then-list-i
-returns-then-list-i c =
-    fall_found c.args.list.now _ c.loop-i.invariant.0 c.loop-i-test.true c.if-list-i.true
-
-pub loop-i-preserved : goal.loop-i-preserved
-loop-i-preserved c =
-    (omega arith, risen_more c.args.list.now _ c.loop-i.invariant.0 c.loop-i.invariant.1 c.if-list-i.false)
-
 pub returns : goal.returns
-returns c = fall_missed c.args.list.now _ c.loop-i-test.false c.loop-i.invariant.1
+returns c =
+    any_fallen c.args.list.now c.is_sorted_by.result
+    (c.is_sorted_by.ensures.cases ltb (answers_always _ _ _ (λ f pair r after k. search (rules, tests))))

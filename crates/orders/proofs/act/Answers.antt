@@ -43,10 +43,10 @@ returns-in-Forward c =
 pub returns-in_default : goal.returns-in_default
 returns-in_default c =
     record {
-      lengths = lengths_rooms c.requires c.call-reply.auto.defaults c.call-reply.auto.premiums;
+      lengths = lengths_rooms c.requires c.call.auto.defaults c.call.auto.premiums;
       acts =
           call_acts c.args.order (draft_in c.args.layout c.args.numbers.now) c.args.walk c.args.register.now
           c.args.defaults.now c.args.premiums.now c.args.row.now
           (record { issue = c.in_default.not-Issue; withdraw = c.in_default.not-Withdraw; forward = c.in_default.not-Forward })
-          c.call-reply.ensures c.of_walk-answer.ensures;
+          c.call.ensures;
     }

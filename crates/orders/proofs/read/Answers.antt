@@ -1,4 +1,6 @@
 -- `orders::read` meets its contract: each way out is a law of `OrderLaws`.
+use Rattle.std.proofs.Common.{ap}
+use Rattle.walk.specs.OurEngine.{walk_result}
 use Rattle.sheet.specs.Brought.{Brought}
 use Rattle.sheet.specs.Spans.{brought_in}
 use Rattle.rows.specs.Rows.{Rows, rows_of}
@@ -9,16 +11,16 @@ pub returns-in-Value : goal.returns-in-Value
 returns-in-Value c =
     let sheet : Brought = brought_in c.args.sheet c.args.numbers.now in
     let rooms : Rows = rows_of c.args.defaults.now c.args.premiums.now in
-    value_reads c.args.order sheet c.args.register.now c.args.walk rooms c.in-Value.is c.value.ensures
+    value_reads c.args.order sheet c.args.register.now c.args.walk rooms c.into.ensures c.in-Value.is c.value-reply.ensures
 
 pub returns-in-Delta : goal.returns-in-Delta
 returns-in-Delta c =
     let sheet : Brought = brought_in c.args.sheet c.args.numbers.now in
     let rooms : Rows = rows_of c.args.defaults.now c.args.premiums.now in
-    delta_reads c.args.order sheet c.args.register.now c.args.walk rooms c.in-Delta.is c.hedge_ratio.ensures
+    delta_reads c.args.order sheet c.args.register.now c.args.walk rooms c.into-in-Delta.ensures c.in-Delta.is c.hedge_ratio-reply.ensures
 
 pub returns-in_default : goal.returns-in_default
 returns-in_default c =
     let sheet : Brought = brought_in c.args.sheet c.args.numbers.now in
     let rooms : Rows = rows_of c.args.defaults.now c.args.premiums.now in
-    nothing_read c.args.order sheet c.args.register.now c.args.walk rooms c.in_default.not-Value c.in_default.not-Delta
+    ap walk_result (nothing_read c.args.order sheet c.args.register.now c.args.walk rooms c.in_default.not-Value c.in_default.not-Delta)

@@ -1,5 +1,5 @@
 -- `orders::withdraw` meets its contract.
-use mathlib.Core.Path.{refl, ap, ◌∙◌}
+use Rattle.std.proofs.Common.{refl, ap, ◌∙◌}
 use Rattle.walk.specs.Answers.{said_by}
 use Rattle.orders.proofs.withdraw.Goals as goal
 

@@ -1,9 +1,5 @@
 -- `register::may_be_left` meets its contract.
-use Prim.Native.Nat.{ℕ, ◌<◌, ◌^◌}
-use mathlib.Core.Path.{◌≡◌, sym, ap, ◌∙◌}
-use mathlib.Core.Bool.{Bool, ◌&&◌}
-use borrow.Author.Tests.{eq-eqb, ne_eqb}
-use lib.Dec.{eqb}
+use Rattle.std.proofs.Common.{ℕ, ◌<◌, ◌^◌, ◌≡◌, sym, ap, ◌∙◌, Bool, ◌&&◌, eq-eqb, ne_eqb, eqb}
 use lib.Bits.{bit_and, bit_or}
 use Rattle.register.specs.Cut.{may_be_left}
 use Rattle.register.proofs.Masks.{mask_test}

@@ -1,6 +1,5 @@
 -- `render::put_answer` meets its contract.
-use Rattle.std.proofs.Common.{rules, arith, ℕ, List, sym, subst, ◌≡◌}
-use lib.Dec.{lit≤}
+use Rattle.std.proofs.Common.{lit≤, rules, arith, ℕ, List, sym, subst, ◌≡◌}
 use Rattle.answers.specs.declared.OrderAnswer.{OrderAnswer}
 use Rattle.answers.specs.declared.OrderAnswer.TheVariants.{Refused, Done, Position, Worth, Ratio, Probability}
 use Rattle.answers.specs.OrderAnswers.{answer_said}

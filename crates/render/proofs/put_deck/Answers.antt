@@ -1,6 +1,5 @@
 -- `render::put_deck` meets its contract.
-use Rattle.std.proofs.Common.{arith, List, ℕ}
-use lib.Dec.{lit≤}
+use Rattle.std.proofs.Common.{lit≤, arith, List, ℕ}
 use Rattle.lines.specs.Text.{Wrote}
 use Rattle.lines.proofs.Laws.{length_field_pos}
 use Rattle.render.specs.Lines.{line, deck_word, deck_line}

@@ -1,6 +1,5 @@
 -- `render::put_line` meets its contract.
-use Rattle.std.proofs.Common.{arith}
-use lib.Dec.{lit≤}
+use Rattle.std.proofs.Common.{lit≤, arith}
 use Rattle.render.specs.Lines.{line, order_line}
 use Rattle.render.proofs.Puts.{put, put_short, both, word_long, width_most}
 use Rattle.render.proofs.put_line.Goals as goal

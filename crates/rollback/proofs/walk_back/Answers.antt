@@ -1,7 +1,5 @@
 -- The parts of its arrays are as long as the rows of the sheet.
-use Prim.Native.Nat.{◌+◌, ◌*◌, ◌≤◌}
-use mathlib.Core.Path.{refl}
-use native.Mathlib.Omega.{arith}
+use Rattle.std.proofs.Common.{◌+◌, ◌*◌, ◌≤◌, refl, arith}
 use Rattle.rows.proofs.Lent.{enough, front, front_size, zeros_front}
 use Rattle.rollback.proofs.walk_back.Goals as goal
 

@@ -1,13 +1,25 @@
 -- `rooms::off_tree` meets its contract.
-use mathlib.Core.Path.{sym, ap, ◌∙◌}
-use Rattle.refusals.specs.declared.Found.{Found}
+use Rattle.std.proofs.Common.{◌≡◌, refl, ap, ◌∙◌, []}
+use Rattle.std.specs.Prelude.{Option, Result, Ok, Err, ⊤}
+use Rattle.std.specs.Option.{unwrap_or}
+use Rattle.std.specs.Result.{result_err}
+use Rattle.refusals.specs.declared.Refusal.{Refusal}
+use Rattle.refusals.specs.declared.Refusal.TheVariants.{OffTree}
+use Rattle.refusals.specs.Refusals.{refusal_number}
+use Rattle.walk.specs.Answers.{Said}
 use Rattle.machine.specs.Rooms.{off_tree_said}
 use Rattle.rooms.proofs.off_tree.Goals as goal
 
-pub returns-in-Refused : goal.returns-in-Refused
-unfolding off_tree_said
-returns-in-Refused c = c.of_walk.ensures ∙ sym (ap (λ (f : Found). off_tree_said f) c.in-Refused.is)
+abbrev refused : Refusal → Said
+refused f = record { number = refusal_number f; values = [] }
 
-pub returns-in-Fine : goal.returns-in-Fine
+told : (found : Result ⊤ Refusal) → refused (unwrap_or (result_err found) OffTree) ≡ off_tree_said found
 unfolding off_tree_said
-returns-in-Fine c = sym (ap (λ (f : Found). off_tree_said f) c.in-Fine.is)
+told (Ok tt) = refl
+told (Err f) = refl
+
+pub returns : goal.returns
+returns c =
+    (λ j. record { number = c.into.ensures j; values = [] })
+    ∙ ap refused (c.unwrap_or-refusal.ensures ∙ ap (λ (o : Option Refusal). unwrap_or o OffTree) c.err.ensures.value)
+    ∙ told c.args.found

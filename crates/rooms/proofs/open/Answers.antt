@@ -2,6 +2,7 @@
 use Rattle.sheet.specs.Brought.{Brought}
 use Rattle.sheet.specs.Spans.{brought_in}
 use Rattle.rows.specs.Rows.{Rows, row_length}
+use Rattle.figures.specs.Answer.{done_answer}
 use Rattle.walk.specs.Calls.{open_call}
 use Rattle.machine.specs.Rooms.{open_in_rooms}
 use Rattle.machine.proofs.LentRooms.{part_long, rooms_left}
@@ -23,4 +24,4 @@ returns c =
     let sheet : Brought = brought_in c.args.sheet c.args.numbers.now in
     rooms_left sheet c.args.defaults.now c.args.premiums.now _ c.row_size-size.ensures c.requires.0 c.requires.1
     (λ (l : Rows). open_call sheet c.args.register.now c.args.walk l)
-    c.«open».ensures.gives
+    done_answer c.«open».ensures.gives

@@ -1,5 +1,5 @@
 -- `rooms::row_size` meets its contract: a product of factors from 1 on is at least each of them.
-use native.Mathlib.Omega.{arith}
+use Rattle.std.proofs.Common.{arith}
 use Rattle.machine.proofs.LentRooms.{product_left, product_right, product_most}
 use Rattle.rooms.proofs.row_size.Goals as goal
 

@@ -1,16 +1,14 @@
--- `tables::is_due` meets its contract. Nothing is due in the steps passed.
-use native.Mathlib.Omega.{arith}
-use Rattle.tables.proofs.Due.{undue_none, undue_more, due_found, due_none}
+-- The steps before the position are searched.
+use Rattle.std.proofs.Common.{◌-◌, ◌∙◌, eqb, not, take, drop, rules, tests}
+use Rattle.std.proofs.lemmas.Iterator.{YieldsList-from_slice}
+use Rattle.std.proofs.lemmas.Iterator.Search.{any_from_yields_List}
+use Rattle.tables.proofs.Due.{part_due}
 use Rattle.tables.proofs.is_due.Goals as goal
 
-pub loop-done-init : goal.loop-done-init
-loop-done-init c = (omega arith, undue_none _ _)
-
-pub returns-then-list-position-ne0 : goal.returns-then-list-position-ne0
-returns-then-list-position-ne0 c = due_found _ _ c.loop-done.done _ c.loop-done-test.true c.if-list-position-ne0.true
-
-pub loop-done-preserved : goal.loop-done-preserved
-loop-done-preserved c = (omega arith, undue_more _ _ c.loop-done.invariant.1 c.if-list-position-ne0.false)
-
 pub returns : goal.returns
-returns c = due_none _ _ c.loop-done-test.false c.loop-done.invariant.1
+returns c =
+    let a = c.args in
+    any_from_yields_List (λ x. not (eqb x 0)) _ _ _ c.any.ensures.ran
+    (YieldsList-from_slice (take (a.position - (a.position - a.count)) (drop (a.position - a.count) a.list.now)) cc)
+    (λ x b q k. search (rules, tests))
+    ∙ part_due a.list.now a.position a.count c.requires.1 c.requires.0

@@ -1,12 +1,27 @@
--- `tables::outstandings_due` meets its contract.
-use mathlib.Core.Path.{sym, ◌∙◌}
-use Rattle.tables.proofs.Due.{cond_due, cond_undue}
+-- Each tranche's row is filled where a premium is due.
+use Rattle.std.proofs.Common.{◌≡◌, ◌∙◌, true, ◌||◌, suc, sym, arith, rules}
+use Rattle.sheet.specs.Terms.{bare}
+use Rattle.tree.specs.Sheet.{outstanding_of}
+use Rattle.rows.specs.Tables.{tab}
+use Rattle.rows.specs.Rows.{row_of}
+use Rattle.rows.specs.Kernels.{due_in}
+use Rattle.rows.proofs.Search.{met_left, met_right}
+use Rattle.rows.proofs.Chunks.{chunks_grid}
+use Rattle.tables.proofs.outstandings_due.Goals.{then-is_due-via-then-is_due, then-is_due-via-else-is_due+then-is_due-2}
 use Rattle.tables.proofs.outstandings_due.Goals as goal
 
-pub returns-then-any_due : goal.returns-then-any_due
-returns-then-any_due c =
-    let due = c.before in
-    c.outstandings.ensures ∙ sym (cond_due _ _ _ (sym due.before.any_due.ensures ∙ due.if-any_due.true))
-
-pub returns-else-any_due : goal.returns-else-any_due
-returns-else-any_due c = sym (cond_undue _ _ _ (sym c.any_due.ensures ∙ c.if-any_due.false))
+pub returns-then-is_due : goal.returns-then-is_due
+unfolding row_of
+returns-then-is_due c =
+    let a = c.args in
+    let due : (due_in a.accruals.now a.position a.count || due_in a.elapsed.now a.position a.count) ≡ true =
+    elim c.then-is_due.branch [
+      | then-is_due-via-then-is_due w ↦ met_left _ _ (sym c.is_due.ensures ∙ w.if-is_due.true)
+      | then-is_due-via-else-is_due+then-is_due-2 w ↦ met_right _ _ (sym w.is_due-else-is_due.ensures ∙ w.if-is_due-2.true)
+    ] in
+    rw due
+    (chunks_grid _ _ _ _ (omega arith) (c.fill_rows.auto.table ∙ c.requires.table_len)
+    (λ j h.
+    let d = c.fill_rows.ensures j h in
+    let made : d.after_call.now ≡ tab (suc a.pool.names) (outstanding_of (bare a.pool a.attachments.now) j) = search rules in
+    sym d.left ∙ made))

@@ -1,6 +1,5 @@
 -- `tables::payment_row` meets its contract. The loop's invariant: the counts passed have their payment, and the loss of the next is at hand.
-use Prim.Native.Nat.{◌-◌, ◌≤◌}
-use mathlib.Core.Path.{◌≡◌}
+use Rattle.std.proofs.Common.{◌≡◌}
 use Rattle.sheet.specs.Terms.{bare}
 use Rattle.tree.specs.Sheet.{loss_of}
 use Rattle.rows.specs.Kernels.{payment_of}
@@ -9,9 +8,4 @@ use Rattle.tables.proofs.payment_row.Given as goal
 
 abbrev pub invariant-loop-k : goal.invariant-loop-k
 invariant-loop-k l =
-    (l.k ≤ l.pool.names)
-    × ((l.lost ≡ loss_of (bare l.pool l.attachments) l.tranche l.k)
-    × Swept (payment_of (bare l.pool l.attachments) l.tranche) l.initial.row l.row l.k)
-
-abbrev pub decreases-loop-k : goal.decreases-loop-k
-decreases-loop-k l = l.pool.names - l.k
+    (l.lost ≡ loss_of (bare l.pool l.attachments) l.tranche l.k) × Swept (payment_of (bare l.pool l.attachments) l.tranche) l.initial.row l.row l.k

@@ -1,16 +1,18 @@
--- The part of its array is as long as the counts of a sheet.
-use Prim.Native.Nat.{◌+◌, ◌≤◌}
-use mathlib.Core.Path.{refl, sym, ◌∙◌}
-use native.Mathlib.Numerals.{add-one}
-use native.Mathlib.Omega.{arith}
-use Rattle.rows.proofs.Lent.{front}
+-- Each tranche's row is filled by the losses of the pool.
+use Rattle.std.proofs.Common.{◌≡◌, suc, sym, ◌∙◌, arith, rules}
+use Rattle.sheet.specs.Terms.{bare}
+use Rattle.rows.specs.Tables.{tab}
+use Rattle.rows.specs.Rows.{row_of}
+use Rattle.rows.specs.Kernels.{payment_of}
+use Rattle.rows.proofs.Chunks.{chunks_grid}
 use Rattle.tables.proofs.payments.Goals as goal
 
-pub slice_bounds-payments_by-end : goal.slice_bounds-payments_by-end
-slice_bounds-payments_by-end c =
-    let counts : c.args.pool.names + 1 ≤ 126 = omega (arith, c.requires.tranches_within.pool.names) in
-    front _ _ 126 refl counts
-
-pub payments_by-requires : goal.payments_by-requires
-payments_by-requires c = let counts : c.args.pool.names + 1 ≤ 126 = omega (arith, c.requires.tranches_within.pool.names) in
-    record { tranches_within = (c.requires.tranches_within, sym (front _ _ 126 refl counts) ∙ add-one c.args.pool.names); table_len = c.requires.table_len }
+pub returns : goal.returns
+unfolding row_of
+returns c =
+    let a = c.args in
+    chunks_grid _ _ _ _ (omega arith) (c.fill_rows.auto.table ∙ c.requires.table_len)
+    (λ j h.
+    let d = c.fill_rows.ensures j h in
+    let made : d.after_call.now ≡ tab (suc a.pool.names) (payment_of (bare a.pool a.attachments.now) j) = search rules in
+    sym d.left ∙ made)

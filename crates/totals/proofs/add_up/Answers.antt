@@ -1,6 +1,5 @@
 -- `totals::add_up` meets its contract.
-use mathlib.Core.Path.{ap, ◌∙◌}
-use mathlib.Core.Bool.{true, false}
+use Rattle.std.proofs.Common.{ap, ◌∙◌, true, false}
 use Rattle.hedges.specs.Hedges.{with_sign}
 use Rattle.totals.proofs.Laws.{figures}
 use Rattle.totals.proofs.add_up.Goals as goal

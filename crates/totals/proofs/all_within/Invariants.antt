@@ -1,11 +1,6 @@
 -- What was passed was within.
-use Prim.Native.Nat.{◌-◌}
-use lib.ListN.{length}
 use Rattle.totals.proofs.Taken.{Passed}
 use Rattle.totals.proofs.all_within.Given as goal
 
-abbrev pub invariant-loop-i : goal.invariant-loop-i
-invariant-loop-i l = Passed l.most l.list l.i
-
-abbrev pub decreases-loop-i : goal.decreases-loop-i
-decreases-loop-i l = length l.list - l.i
+abbrev pub invariant-loop-entry : goal.invariant-loop-entry
+invariant-loop-entry l = Passed l.most l.list l.entry-index

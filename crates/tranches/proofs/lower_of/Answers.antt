@@ -1,5 +1,5 @@
 -- `tranches::lower_of` meets its contract.
-use mathlib.Core.Path.{sym}
+use Rattle.std.proofs.Common.{sym}
 use Rattle.sheet.specs.Terms.{bare}
 use Rattle.tranches.proofs.Losses.{lower_tranche, lower_index}
 use Rattle.tranches.proofs.lower_of.Goals as goal
@@ -9,7 +9,7 @@ returns-then-tranche-pool c =
     let a = c.args in
     sym (lower_tranche (bare a.pool a.attachments.now) a.tranche c.if-tranche-pool.true)
 
-pub returns : goal.returns
-returns c =
+pub returns-else-tranche-pool : goal.returns-else-tranche-pool
+returns-else-tranche-pool c =
     let a = c.args in
     sym (lower_index (bare a.pool a.attachments.now) a.tranche c.if-tranche-pool.false)

@@ -1,7 +1,5 @@
 -- `tranches::upper_of` meets its contract.
-use mathlib.Core.Path.{sym, ap, ◌∙◌}
-use native.Mathlib.Numerals.{add-one}
-use lib.ListN.{get_or}
+use Rattle.std.proofs.Common.{sym, ap, ◌∙◌, add-one, get_or}
 use Rattle.cash.specs.Units.{B}
 use Rattle.sheet.specs.Terms.{bare}
 use Rattle.tranches.proofs.Losses.{upper_tranche, upper_index}
@@ -16,8 +14,8 @@ pub overflow_sub-result : goal.overflow_sub-result
 unfolding B
 overflow_sub-result c = c.requires.tranches_within.recovery
 
-pub returns : goal.returns
+pub returns-else-tranche-pool : goal.returns-else-tranche-pool
 unfolding B
-returns c =
+returns-else-tranche-pool c =
     let a = c.args in
     sym (upper_index (bare a.pool a.attachments.now) a.tranche c.if-tranche-pool.false)

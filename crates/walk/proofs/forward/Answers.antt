@@ -1,13 +1,11 @@
 -- By what it is refused for; the row is then the distribution.
-use mathlib.Core.Path.{◌≡◌, sym, ◌∙◌}
-use mathlib.Core.List.{List}
-use Prim.Native.Nat.{ℕ}
+use Rattle.std.proofs.Common.{◌≡◌, sym, ◌∙◌, List, ℕ, Ok}
+use Rattle.std.proofs.lemmas.Result.{err_from_is_err_and}
 use Rattle.forward.proofs.Alike.{hazards_enough}
 use Rattle.sheet.specs.Brought.{Brought}
 use Rattle.sheet.specs.Spans.{brought_in}
 use Rattle.sheet.specs.Limits.{Limits}
 use Rattle.forward.specs.Steps.{HazardsFit}
-use Rattle.refusals.specs.declared.Found.TheVariants.{Fine}
 use Rattle.refusals.specs.Tests.{first}
 use Rattle.sheet.proofs.Limits.{hazard_most, limits_terms}
 use Rattle.walk.specs.Calls.{ForwardOutcome, forward_tests, forward_call}
@@ -31,20 +29,22 @@ hazards-fit x m =
       most = hazard_most x.sheet (limits_terms x m);
     }
 
-pub returns-in-Refused : goal.returns-in-Refused
-returns-in-Refused c = let sheet : Brought = brought_in c.args.sheet c.args.numbers.now in
-    let both = gives _ _ _ _ (forward_not sheet c.args.register.now c.args.row.now c.args.steps (sym c.in-Refused.ensures)) in
-    record { gives = both.0; rule = both.1 }
+pub returns-in_err-judge_forward : goal.returns-in_err-judge_forward
+returns-in_err-judge_forward c =
+    let sheet : Brought = brought_in c.args.sheet c.args.numbers.now in
+    let p = err_from_is_err_and c.from_residual.result c.from_residual.ensures.1 in
+    let both = gives _ _ _ _ (forward_not sheet c.args.register.now c.args.row.now c.args.steps (sym c.in_err-judge_forward.ensures)) in
+    rw (p.1, p.2) (record { gives = both.0; rule = both.1 })
 
 pub distribute-requires : goal.distribute-requires
 distribute-requires c = let sheet : Brought = brought_in c.args.sheet c.args.numbers.now in
-    let fine : first (forward_tests sheet c.args.register.now c.args.row.now c.args.steps) ≡ Fine = sym c.in_default.ensures in
+    let fine : first (forward_tests sheet c.args.register.now c.args.row.now c.args.steps) ≡ Ok tt = sym c.in_ok-judge_forward.ensures in
     let o = forwarding sheet c.args.register.now c.args.row.now c.args.steps fine in
     record { row_len = o.lent.row; hazards_fit = rw (c.part-starts.ensures, c.part-hazards.ensures) (hazards-fit sheet o.limits) }
 
 pub returns : goal.returns
 returns c = let sheet : Brought = brought_in c.args.sheet c.args.numbers.now in
-    let fine : first (forward_tests sheet c.args.register.now c.args.row.now c.args.steps) ≡ Fine = sym c.in_default.ensures in
+    let fine : first (forward_tests sheet c.args.register.now c.args.row.now c.args.steps) ≡ Ok tt = sym c.in_ok-judge_forward.ensures in
     let both = gives _ _ _ _
     (forward_done sheet c.args.register.now c.args.row.now c.args.steps fine _
     (c.distribute.ensures ∙ hazards_enough sheet.sheet _ _ c.part-starts.ensures c.part-hazards.ensures c.args.steps)) in

@@ -1,15 +1,11 @@
+use Rattle.std.proofs.Common.{◌≡◌, ◌∙◌, ℕ, ◌+◌, ◌*◌, ◌≤◌, ◌<◌, arith, w64, get_or}
 use borrow.Author.Rules.{sfits_of}
-use mathlib.Core.Path.{◌≡◌, ◌∙◌}
-use Prim.Native.Nat.{ℕ, ◌+◌, ◌*◌, ◌≤◌, ◌<◌}
-use native.Mathlib.Omega.{arith}
-use mir.Syntax.{w64}
 use mir.ValLaws.{to_z-of_z}
-use lib.ListN.{get_or}
 use Rattle.hedges.specs.Hedges.{net_value}
 use Rattle.rows.specs.Rows.{node_in}
 use Rattle.sheet.specs.Brought.{Brought}
 use Rattle.sheet.specs.Spans.{brought_in}
-use Rattle.figures.specs.declared.Answer.TheVariants.{Worth}
+use Rattle.figures.specs.Answer.{Worth}
 use Rattle.figures.specs.Replies.{worth}
 use Rattle.rows.proofs.Lent.{enough}
 use Rattle.figures.proofs.Places.{place_below, node_place}

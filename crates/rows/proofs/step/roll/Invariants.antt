@@ -1,12 +1,7 @@
 -- `rows::step::roll` meets its contract. The loop's invariant: the counts passed are rolled, the others as they were.
-use Prim.Native.Nat.{◌-◌, ◌≤◌}
-use lib.ListN.{length}
 use Rattle.rows.specs.Kernels.{rolled_at}
 use Rattle.rows.proofs.Sweep.{Swept}
 use Rattle.rows.proofs.step.roll.Given as goal
 
 abbrev pub invariant-loop-k : goal.invariant-loop-k
-invariant-loop-k l = (l.k ≤ length l.hazards) × Swept (rolled_at l.hazards l.discount l.cash l.initial.row) l.initial.row l.row l.k
-
-abbrev pub decreases-loop-k : goal.decreases-loop-k
-decreases-loop-k l = length l.hazards - l.k
+invariant-loop-k l = Swept (rolled_at l.hazards l.discount l.cash l.initial.row) l.initial.row l.row l.k

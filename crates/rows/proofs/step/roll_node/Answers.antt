@@ -1,7 +1,5 @@
 -- `rows::step::roll_node` meets its contract.
-use Prim.Native.Nat.{ℕ, ◌+◌, ◌*◌, ◌-◌, ◌≤◌}
-use mathlib.Core.Path.{ap, ◌∙◌}
-use native.Mathlib.Omega.{arith}
+use Rattle.std.proofs.Common.{ℕ, ◌+◌, ◌*◌, ◌-◌, ◌≤◌, ap, ◌∙◌, arith}
 use Rattle.cash.specs.Units.{B, half}
 use Rattle.tree.specs.Backward.{roll_node}
 use Rattle.rows.proofs.Nodes.{mean_most, mean_half_most, discounted_most}
