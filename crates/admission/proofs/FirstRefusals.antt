@@ -1,11 +1,10 @@
 -- The first refusal of the checks 1 to 12, check by check.
-use Rattle.std.proofs.Common.{◌≡◌, refl, sym, ◌∙◌, ap, Bool, true, false, List, [], ◌∷◌, ◌++◌, ℕ, eq-eqb, ltb}
+use Rattle.std.proofs.Common.{◌≡◌, refl, sym, ◌∙◌, ap, Bool, true, false, List, [], ◌∷◌, ◌++◌, ℕ}
 use Rattle.std.specs.Prelude.{Result, Ok, Err, ⊤}
 use Rattle.rows.specs.Rows.{soiled, Rows}
 use Rattle.register.specs.declared.answers.Status.{Status}
 use Rattle.register.specs.Register.{status_in}
-use Rattle.sheet.specs.declared.Pool.{Pool}
-use Rattle.sheet.specs.Brought.{Brought, brought}
+use Rattle.sheet.specs.Brought.{Brought}
 use Rattle.refusals.specs.declared.Refusal.{Refusal}
 use Rattle.refusals.specs.Tests.{Test, first, pool_bad, sheet_tests}
 use Rattle.refusals.proofs.FirstTest.{joined_refused, joined_fine, sheet_refused, sheet_fine, first_none, first_met, first_passed}
@@ -54,20 +53,6 @@ module _ (x : Brought) (g : List ℕ) (lent : Bool) where
   pub ten_alike : (t : Bool) (more : List Test) → (pool_bad x.sheet ≡ false → lent ≡ t) → first (ten_tests x g lent more) ≡ first (ten_tests x g t more)
   unfolding ten_tests
   ten_alike t more e = lent_alike x lent t _ e
-
--- ---- check 11
-
--- Of an open walk with the sheet's number, the position decides.
-pub walk_steps : (x : Brought) (is_open : Bool) (number position : ℕ) → is_open ≡ true → number ≡ x.number →
-    ltb x.sheet.steps position ≡ off_walk x is_open number position
-unfolding off_walk
-walk_steps x is_open number position e h = simp (e, eq-eqb number x.number h)
-
--- The check rests on the pool and the walk alone.
-pub walk_told : (pool : Pool) (attachments starts hazards discounts accruals elapsed coupons : List ℕ) (is_open : Bool) (number position : ℕ) {r : Bool} →
-    r ≡ off_walk (brought pool [] [] [] [] [] [] []) is_open number position → r ≡ off_walk (brought pool attachments starts hazards discounts accruals elapsed coupons) is_open number position
-unfolding off_walk
-walk_told pool attachments starts hazards discounts accruals elapsed coupons is_open number position e = e
 
 -- ---- checks 11 and 12 behind the first ten
 

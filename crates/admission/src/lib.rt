@@ -4,14 +4,13 @@
 
 ghost use Rattle.std.specs.Prelude.{◌≡◌, false, []};
 ghost use Rattle.sheet.specs.Brought.{without_lists};
-ghost use Rattle.sheet.specs.Spans.{brought_in};
 ghost use Rattle.refusals.specs.Tests.{pool_bad, first};
 ghost use Rattle.rows.specs.Rows.{rows_of};
 ghost use Rattle.admission.specs.LentTests.{rows_bad, row_bad, off_walk, ten_tests, walk_tests};
 
 use refusals::Refusal;
 use register::Status;
-use sheet::{NAMES_MOST, Pool, Sheet, TRANCHES_MOST};
+use sheet::{Brought, NAMES_MOST, Pool, TRANCHES_MOST};
 
 // 2: whether the register or a row has another length. Of a pool outside its limits, which is refused before, it says nothing.
 pub fn rows_differ(pool: Pool, register: &[u8], defaults: &[u64], premiums: &[u64]) -> bool
@@ -34,11 +33,11 @@ pub fn row_differs(pool: Pool, register: &[u8], row: &[u64]) -> bool
 }
 
 // 1 to 10 with 21 and 25. `lent` tells whether a list lent beside the sheet's own has another length.
-pub fn to_ten(sheet: Sheet, numbers: &[u64], register: &[u8], lent: bool) -> Result<(), Refusal>
-    ensures { result ≡ first (ten_tests (brought_in sheet numbers.now) register.now lent []) }
+pub fn to_ten(brought: &Brought<'_>, register: &[u8], lent: bool) -> Result<(), Refusal>
+    ensures { result ≡ first (ten_tests brought.now register.now lent []) }
 {
-    checks::sheet_refusal(sheet, numbers, lent)?;
-    match register::status(register, sheet.pool.number) {
+    checks::sheet_refusal(brought, lent)?;
+    match register::status(register, brought.number()) {
         Status::Withdrawn => Err(Refusal::Withdrawn),
         Status::Unissued => Err(Refusal::Unissued),
         Status::Live => Ok(()),
@@ -46,10 +45,11 @@ pub fn to_ten(sheet: Sheet, numbers: &[u64], register: &[u8], lent: bool) -> Res
 }
 
 // 11: whether a walk is closed, of another number, or beyond the last step.
-fn off_walk(is_open: bool, number: u8, position: usize, pool: Pool) -> bool
-    ensures { result ≡ off_walk (without_lists pool) is_open number position }
+#[tactic(auto, unfolding(crate::specs::LentTests::off_walk))]
+fn off_walk(is_open: bool, number: u8, position: usize, brought: &Brought<'_>) -> bool
+    ensures { result ≡ off_walk brought.now is_open number position }
 {
-    !is_open || number != pool.number || pool.steps < position
+    !is_open || number != brought.number() || brought.steps() < position
 }
 
 // 1 to 12.
@@ -57,23 +57,21 @@ pub fn to_twelve(
     is_open: bool,
     number: u8,
     position: usize,
-    sheet: Sheet,
-    numbers: &[u64],
+    brought: &Brought<'_>,
     register: &[u8],
     defaults: &[u64],
     premiums: &[u64],
 ) -> Result<(), Refusal>
     ensures { result
-        ≡ first (walk_tests (brought_in sheet numbers.now) register.now is_open number position
+        ≡ first (walk_tests brought.now register.now is_open number position
         (rows_of defaults.now premiums.now) []) }
 {
-    let pool = sheet.pool;
-    let lent = rows_differ(pool, register, defaults, premiums);
-    to_ten(sheet, numbers, register, lent)?;
-    if off_walk(is_open, number, position, pool) {
+    let lent = rows_differ(brought.sheet.pool, register, defaults, premiums);
+    to_ten(brought, register, lent)?;
+    if off_walk(is_open, number, position, brought) {
         return Err(Refusal::NoWalk);
     }
-    if ceilings::is_soiled(sheet, numbers, defaults, premiums, position) {
+    if ceilings::is_soiled(brought, defaults, premiums, position) {
         return Err(Refusal::OverCeiling);
     }
     Ok(())

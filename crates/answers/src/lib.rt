@@ -1,85 +1,100 @@
-// What an order of a deck answers: refusals by document 01's numbers.
+// What an order of a deck answers: what an accepted one tells, or the refusal of its call.
 
 #![tactic(auto)]
 
 ghost use Rattle.std.specs.Prelude.{◌≡◌};
 ghost use Rattle.figures.specs.Answer.{done_answer, position_answer, worth_answer, ratio_answer};
 ghost use Rattle.walk.specs.Answers.{said_of, said_by};
-ghost use Rattle.answers.specs.OrderAnswers.{answer_said};
+ghost use Rattle.answers.specs.declared.OrderRefusal.TheVariants.{Call, Write};
+ghost use Rattle.answers.specs.OrderAnswers.{order_refusal_number, answer_said};
 
 use refusals::Refusal;
+use register::WriteRefusal;
 use walk::Worth;
 
-#[derive(Clone, Copy)]
-pub enum OrderAnswer {
-    // a refusal, by document 01's number
-    Refused(u8),
+// What an accepted order tells.
+#[derive(Clone, Copy, PartialEq, Eq)]
+pub enum Told {
     // issue, withdraw and open
     Done,
     // back
     Position(usize),
     // value: D, A and W
-    Worth(u64, u64, i64),
+    Worth(Worth),
     // delta, in millionths
     Ratio(i64),
     // forward: Q(k)
     Probability(u64),
 }
 
-// What open answers.
-impl From<Result<(), Refusal>> for OrderAnswer {
-    ghost from_gives = { λ said answer. answer_said answer ≡ said_of (done_answer said) };
+// Why an order is refused: by a call of the walk, or by one that writes the register.
+#[derive(Clone, Copy, PartialEq, Eq)]
+pub enum OrderRefusal {
+    Call(Refusal),
+    Write(WriteRefusal),
+}
 
-    fn from(said: Result<(), Refusal>) -> OrderAnswer {
-        match said {
-            Ok(()) => OrderAnswer::Done,
-            Err(refusal) => OrderAnswer::Refused(refusal.into()),
+impl From<Refusal> for OrderRefusal {
+    ghost from_gives = { λ refusal to. to ≡ Call refusal };
+
+    fn from(refusal: Refusal) -> OrderRefusal {
+        OrderRefusal::Call(refusal)
+    }
+}
+
+impl From<WriteRefusal> for OrderRefusal {
+    ghost from_gives = { λ refusal to. to ≡ Write refusal };
+
+    fn from(refusal: WriteRefusal) -> OrderRefusal {
+        OrderRefusal::Write(refusal)
+    }
+}
+
+// A refusal's number in document 01.
+impl From<OrderRefusal> for u8 {
+    ghost from_gives = { λ refusal number. number ≡ order_refusal_number refusal };
+
+    fn from(refusal: OrderRefusal) -> u8 {
+        match refusal {
+            OrderRefusal::Call(refusal) => refusal.into(),
+            OrderRefusal::Write(refusal) => refusal.into(),
         }
     }
+}
+
+// What open answers.
+pub fn of_open(said: Result<(), Refusal>) -> Result<Told, OrderRefusal>
+    ensures { answer_said result ≡ said_of (done_answer said) }
+{
+    said?;
+    Ok(Told::Done)
 }
 
 // What back answers.
-impl From<Result<usize, Refusal>> for OrderAnswer {
-    ghost from_gives = { λ said answer. answer_said answer ≡ said_of (position_answer said) };
-
-    fn from(said: Result<usize, Refusal>) -> OrderAnswer {
-        match said {
-            Ok(position) => OrderAnswer::Position(position),
-            Err(refusal) => OrderAnswer::Refused(refusal.into()),
-        }
-    }
+pub fn of_back(said: Result<usize, Refusal>) -> Result<Told, OrderRefusal>
+    ensures { answer_said result ≡ said_of (position_answer said) }
+{
+    Ok(Told::Position(said?))
 }
 
 // What value answers.
-impl From<Result<Worth, Refusal>> for OrderAnswer {
-    ghost from_gives = { λ said answer. answer_said answer ≡ said_of (worth_answer said) };
-
-    fn from(said: Result<Worth, Refusal>) -> OrderAnswer {
-        match said {
-            Ok(worth) => OrderAnswer::Worth(worth.default, worth.premium, worth.net),
-            Err(refusal) => OrderAnswer::Refused(refusal.into()),
-        }
-    }
+pub fn of_value(said: Result<Worth, Refusal>) -> Result<Told, OrderRefusal>
+    ensures { answer_said result ≡ said_of (worth_answer said) }
+{
+    Ok(Told::Worth(said?))
 }
 
 // What hedge ratio answers.
-impl From<Result<i64, Refusal>> for OrderAnswer {
-    ghost from_gives = { λ said answer. answer_said answer ≡ said_of (ratio_answer said) };
-
-    fn from(said: Result<i64, Refusal>) -> OrderAnswer {
-        match said {
-            Ok(ratio) => OrderAnswer::Ratio(ratio),
-            Err(refusal) => OrderAnswer::Refused(refusal.into()),
-        }
-    }
+pub fn of_hedge_ratio(said: Result<i64, Refusal>) -> Result<Told, OrderRefusal>
+    ensures { answer_said result ≡ said_of (ratio_answer said) }
+{
+    Ok(Told::Ratio(said?))
 }
 
 // What issue and withdraw answer.
-pub fn of_register(answer: Result<(), register::WriteRefusal>) -> OrderAnswer
-    ensures { answer_said result ≡ said_by answer }
+pub fn of_register(said: Result<(), WriteRefusal>) -> Result<Told, OrderRefusal>
+    ensures { answer_said result ≡ said_by said }
 {
-    match answer {
-        Ok(()) => OrderAnswer::Done,
-        Err(refusal) => OrderAnswer::Refused(u8::from(refusal)),
-    }
+    said?;
+    Ok(Told::Done)
 }

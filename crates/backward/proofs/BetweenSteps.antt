@@ -1,5 +1,5 @@
 -- A walk back between two of its steps.
-use Rattle.std.proofs.Common.{ℕ, suc, ◌+◌, ◌-◌, ◌*◌, ◌≤◌, ◌<◌, ◌≡◌, refl, ap, ◌∙◌, cond, ◌||◌, List, arith, add-one, length, get_or}
+use Rattle.std.proofs.Common.{ℕ, suc, ◌+◌, ◌-◌, ◌*◌, ◌≤◌, ◌<◌, ◌≡◌, refl, ap, sym, ◌∙◌, cond, ◌||◌, List, arith, add-one, length, get_or}
 use Rattle.cash.specs.Units.{B}
 use Rattle.cash.specs.Losses.{elapsed_payment}
 use Rattle.sheet.specs.Terms.{Terms, terms_of, bare}
@@ -33,11 +33,12 @@ pub record StepsDone (x : Terms) (d p : List ℕ) (position count : ℕ) (starts
   pub defaults : ds ≡ rolled_back x (default_of x) position done d
   pub premiums : ps ≡ rolled_back x (premium_of x) position done p
 
--- Before the first step: the lists are parts of the sheet's numbers, and the tables are filled from them.
-module _ (pool : Pool) (attachments starts hazards discounts accruals elapsed a b h v c g : List ℕ)
-    (a_is : a ≡ attachments) (b_is : b ≡ starts) (h_is : h ≡ hazards) (v_is : v ≡ discounts) (c_is : c ≡ accruals) (g_is : g ≡ elapsed) where
-  abbrev x : Terms
-  x = terms_of pool attachments starts hazards discounts accruals elapsed
+-- Before the first step: the lists are those of the sheet x, which the pool and its lists tell, and the tables are filled from them.
+module _ (pool : Pool) (attachments starts hazards discounts accruals elapsed : List ℕ) (x : Terms)
+    (x_is : terms_of pool attachments starts hazards discounts accruals elapsed ≡ x) (a b h v c g : List ℕ) (a_is : a ≡ x.attachments)
+    (b_is : b ≡ x.starts) (h_is : h ≡ x.hazards) (v_is : v ≡ x.discounts) (c_is : c ≡ x.accruals) (g_is : g ≡ x.elapsed) where
+  points_are : a ≡ attachments
+  points_are = a_is ∙ ap (λ y. y.attachments) (sym x_is)
 
   pub steps_none : (d p paid left before none : List ℕ) (position count : ℕ) → Rollable x d p position count
       → paid ≡ row_of (bare pool a) (payment_of (bare pool a))
@@ -54,13 +55,15 @@ module _ (pool : Pool) (attachments starts hazards discounts accruals elapsed a 
         accruals_is = c_is;
         elapsed_is = g_is;
         paid_is =
-            e ∙ (λ t. row_of (bare pool (a_is t)) (payment_of (bare pool (a_is t))))
-            ∙ ap (row_of (bare pool attachments)) (payment_bare pool attachments starts hazards discounts accruals elapsed);
+            e ∙ (λ t. row_of (bare pool (points_are t)) (payment_of (bare pool (points_are t))))
+            ∙ ap (row_of (bare pool attachments)) (payment_bare pool attachments starts hazards discounts accruals elapsed)
+            ∙ (λ t. row_of (x_is t) (payment_of (x_is t)));
         left_is =
             left_filled x r.limits.tranches position count left before l o
-            (f ∙ (λ t. cond (due_in (c_is t) position count || due_in (g_is t) position count) (row_of (bare pool (a_is t)) (outstanding_of (bare pool (a_is t)))) before)
-            ∙ ap (λ (o : ℕ → ℕ → ℕ). cond (due_in accruals position count || due_in elapsed position count) (row_of (bare pool attachments) o) before)
-            (outstanding_bare pool attachments starts hazards discounts accruals elapsed));
+            (f ∙ (λ t. cond (due_in (c_is t) position count || due_in (g_is t) position count) (row_of (bare pool (points_are t)) (outstanding_of (bare pool (points_are t)))) before)
+            ∙ ap (λ (o : ℕ → ℕ → ℕ). cond (due_in x.accruals position count || due_in x.elapsed position count) (row_of (bare pool attachments) o) before)
+            (outstanding_bare pool attachments starts hazards discounts accruals elapsed)
+            ∙ (λ t. cond (due_in x.accruals position count || due_in x.elapsed position count) (row_of (x_is t) (outstanding_of (x_is t))) before));
         earned_is = none_earned (suc x.tranches) x.names none left z n;
         most = omega arith;
         defaults = refl;

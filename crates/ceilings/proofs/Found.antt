@@ -1,12 +1,12 @@
 -- Laws of a search for an entry over its ceiling.
-use Rattle.std.proofs.Common.{ℕ, zero, suc, ◌+◌, ◌-◌, ◌*◌, ◌/◌, ◌%◌, ◌≤◌, ◌<◌, ◌≡◌, refl, ap, sym, ◌∙◌, Bool, true, false, ◌||◌, List, [], arith}
+use Rattle.std.proofs.Common.{ℕ, zero, suc, ◌+◌, ◌-◌, ◌*◌, ◌/◌, ◌%◌, ◌≤◌, ◌<◌, ◌≡◌, refl, ap, sym, ◌∙◌, Bool, true, false, ◌||◌, List, arith}
 use Rattle.std.proofs.Common.{length, get_or, drop, ltb, lit≤, ltb-false, lt-ltb, le-ltb}
 use native.Mathlib.Decide.{ℕ_discrete}
 use lib.Arith.{digits_lt, digits_div, digits_mod}
 use Rattle.cash.specs.Units.{B}
 use Rattle.sheet.specs.Terms.{Terms, sum_of, terms_of, bare}
 use Rattle.sheet.specs.Limits.{TermsWithin}
-use Rattle.tree.specs.Sheet.{pool_loss_of, loss_of, width_of, default_most, premium_most}
+use Rattle.tree.specs.Sheet.{default_most, premium_most}
 use Rattle.tree.proofs.Sheets.{loss_most}
 use Rattle.rows.specs.Tables.{entry, any}
 use Rattle.rows.specs.Rows.{row_length, node_in, any_over, soiled}
@@ -75,38 +75,32 @@ unfolding any
 any_or zero f g = refl
 any_or (suc n) f g = ap (λ (b : Bool). b || (f n || g n)) (any_or n f g) ∙ or_swap (any n f) (any n g) (f n) (g n)
 
--- What the search finds is that the rows are soiled.
-module _ (pool : Pool) (attachments starts hazards discounts accruals elapsed d p : List ℕ) (i most : ℕ) (e : most ≡ sum_of (drop i accruals) + 2 * (pool.steps - i)) where
+-- What the search finds, by a pool and lists that are those of the sheet x, is that its rows are soiled.
+module _ (pool : Pool) (attachments starts hazards discounts accruals elapsed : List ℕ) (x : Terms)
+    (x_is : terms_of pool attachments starts hazards discounts accruals elapsed ≡ x) (a c : List ℕ) (a_is : a ≡ x.attachments) (c_is : c ≡ x.accruals) where
   abbrev whole : Terms
   whole = terms_of pool attachments starts hazards discounts accruals elapsed
 
-  most_is : (k : ℕ) → most + (pool.names - k) ≡ premium_most whole i k
-  unfolding premium_most
-  most_is k = omega (arith, e)
+  module _ (d p : List ℕ) (i most : ℕ) (e : most ≡ sum_of (drop i c) + 2 * (pool.steps - i)) where
+    most_is : (k : ℕ) → most + (pool.names - k) ≡ premium_most whole i k
+    unfolding premium_most
+    most_is k = omega (arith, e, ap (λ (l : List ℕ). sum_of (drop i l)) c_is, ap (λ (y : Terms). sum_of (drop i y.accruals)) x_is)
 
-  pub soiled_is :
-      any (suc pool.tranches) (λ j. any (suc pool.names) (λ k. over_at (bare pool attachments) most d p j k)) ≡ soiled whole i d p
-  unfolding soiled any_over node_in
-  soiled_is =
-      let r : ℕ = suc pool.tranches in
-      let w : ℕ = suc pool.names in
-      (λ t.
-      any r (λ j.
-      any w (λ k. ltb (ceiling_bare pool attachments starts hazards discounts accruals elapsed t j k) (entry w d j k) || ltb (most_is k t) (entry w p j k))))
-      ∙ any_cong r _ _ (λ j h. any_or w (λ k. ltb (default_most whole j k) (entry w d j k)) (λ k. ltb (premium_most whole i k) (entry w p j k)))
-      ∙ any_or r (λ j. any w (λ k. ltb (default_most whole j k) (entry w d j k))) (λ j. any w (λ k. ltb (premium_most whole i k) (entry w p j k)))
+    ceiling_is : default_most (bare pool a) ≡ default_most whole
+    ceiling_is =
+        (λ t. default_most (bare pool (a_is t)))
+        ∙ (λ t. default_most (bare pool (sym x_is t).attachments))
+        ∙ ceiling_bare pool attachments starts hazards discounts accruals elapsed
 
--- The lists that set no ceiling play no part, and the others may be parts of the sheet's numbers.
-module _ (pool : Pool) (attachments starts hazards discounts accruals elapsed a c : List ℕ) (a_is : a ≡ attachments) (c_is : c ≡ accruals) where
-  abbrev x : Terms
-  x = terms_of pool attachments starts hazards discounts accruals elapsed
-
-  soiled_whole : (i : ℕ) (d p : List ℕ) → soiled (terms_of pool attachments [] [] [] accruals []) i d p ≡ soiled x i d p
-  unfolding soiled any_over node_in default_most width_of loss_of pool_loss_of premium_most
-  soiled_whole i d p = refl
-
-  pub soiled_part : (i : ℕ) (d p : List ℕ) → soiled (terms_of pool a [] [] [] c []) i d p ≡ soiled x i d p
-  soiled_part i d p = (λ t. soiled (terms_of pool (a_is t) [] [] [] (c_is t) []) i d p) ∙ soiled_whole i d p
+    pub soiled_is : any (suc pool.tranches) (λ j. any (suc pool.names) (λ k. over_at (bare pool a) most d p j k)) ≡ soiled x i d p
+    unfolding soiled any_over node_in
+    soiled_is =
+        let r : ℕ = suc pool.tranches in
+        let w : ℕ = suc pool.names in
+        (λ t. any r (λ j. any w (λ k. ltb (ceiling_is t j k) (entry w d j k) || ltb (most_is k t) (entry w p j k))))
+        ∙ any_cong r _ _ (λ j h. any_or w (λ k. ltb (default_most whole j k) (entry w d j k)) (λ k. ltb (premium_most whole i k) (entry w p j k)))
+        ∙ any_or r (λ j. any w (λ k. ltb (default_most whole j k) (entry w d j k))) (λ j. any w (λ k. ltb (premium_most whole i k) (entry w p j k)))
+        ∙ (λ t. soiled (x_is t) i d p)
 
 -- ---- rows that keep to their ceilings can be walked back
 

@@ -2,17 +2,16 @@
 
 #![tactic(auto)]
 
-ghost use Rattle.std.specs.Prelude.{◌≡◌, ◌||◌, suc, ◌+◌, ◌-◌, ◌*◌, ◌≤◌, [], length, drop, ltb};
+ghost use Rattle.std.specs.Prelude.{◌≡◌, ◌||◌, suc, ◌+◌, ◌-◌, ◌*◌, ◌≤◌, length, drop, ltb};
 ghost use Rattle.sheet.specs.Limits.{TranchesWithin, TermsWithin};
-ghost use Rattle.sheet.specs.Spans.{terms_in};
 ghost use Rattle.cash.specs.Units.{B};
-ghost use Rattle.sheet.specs.Terms.{sum_of, terms_of, bare};
+ghost use Rattle.sheet.specs.Terms.{sum_of, bare};
 ghost use Rattle.tree.specs.Sheet.{default_most};
 ghost use Rattle.rows.specs.Tables.{entry, any};
 ghost use Rattle.rows.specs.Rows.{row_length, soiled};
 ghost use Rattle.rows.specs.Kernels.{pool_losses};
 
-use sheet::{COUNTS_MOST, Pool, Sheet, part};
+use sheet::{Brought, COUNTS_MOST, Pool};
 
 // The accruals after a step.
 fn accruals_after(accruals: &[u64], position: usize) -> u64
@@ -70,52 +69,19 @@ fn any_over(
     found
 }
 
-// Fills the table of losses and searches both rows.
-fn soiled_with_losses(
-    pool: Pool,
-    attachments: &[u64],
-    accruals: &[u64],
-    defaults: &[u64],
-    premiums: &[u64],
-    position: usize,
-    losses: &mut [u64],
-) -> bool
-    requires tranches_within { TranchesWithin (bare pool attachments.now) × (sum_of accruals.now ≤ 10 * B) × (length losses.old ≡ suc pool.names) }
-    requires defaults_len { (length defaults.now ≡ row_length (bare pool attachments.now))
-        × (length premiums.now ≡ row_length (bare pool attachments.now)) }
-    ensures { result
-        ≡ soiled (terms_of pool attachments.now [] [] [] accruals.now []) position defaults.now
-        premiums.now }
+// Whether the rows at a position hold an entry over its ceiling.
+pub fn is_soiled(brought: &Brought<'_>, defaults: &[u64], premiums: &[u64], position: usize) -> bool
+    requires terms_within { TermsWithin brought.now.sheet }
+    requires defaults_len { (length defaults.now ≡ row_length brought.now.sheet)
+        × (length premiums.now ≡ row_length brought.now.sheet) }
+    ensures { result ≡ soiled brought.now.sheet position defaults.now premiums.now }
 {
+    let pool = brought.sheet.pool;
+    let attachments = brought.attachments();
+    let accruals = brought.accruals();
+    let mut room = [0u64; COUNTS_MOST];
+    let losses = &mut room[..pool.names + 1];
     tranches::pool_losses(pool.names, pool.recovery, losses);
     let most = premium_most(pool, accruals, position);
     any_over(pool, attachments, losses, most, defaults, premiums)
-}
-
-// Whether the rows at a position hold an entry over its ceiling.
-pub fn is_soiled(
-    sheet: Sheet,
-    numbers: &[u64],
-    defaults: &[u64],
-    premiums: &[u64],
-    position: usize,
-) -> bool
-    requires terms_within { TermsWithin (terms_in sheet numbers.now) }
-    requires defaults_len { (length defaults.now ≡ row_length (terms_in sheet numbers.now))
-        × (length premiums.now ≡ row_length (terms_in sheet numbers.now)) }
-    ensures { result ≡ soiled (terms_in sheet numbers.now) position defaults.now premiums.now }
-{
-    let pool = sheet.pool;
-    let attachments = part(sheet.attachments, numbers);
-    let accruals = part(sheet.accruals, numbers);
-    let mut losses = [0u64; COUNTS_MOST];
-    soiled_with_losses(
-        pool,
-        attachments,
-        accruals,
-        defaults,
-        premiums,
-        position,
-        &mut losses[..pool.names + 1],
-    )
 }

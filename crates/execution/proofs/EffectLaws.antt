@@ -1,12 +1,14 @@
 -- What a command's execution does, on plain values.
 use Rattle.std.proofs.Common.{ℕ, ◌+◌, ◌≤◌, ◌≡◌, sym, ap, true, false, List, [], arith}
+use Rattle.std.specs.Prelude.{Result}
 use Rattle.lines.specs.Text.{Wrote}
 use Rattle.lines.proofs.Laws.{wrote_none}
 use Rattle.commands.specs.declared.Entry.{Entry}
 use Rattle.commands.specs.declared.Order.{Order}
 use Rattle.commands.specs.Commands.{entry_size, order_size}
 use Rattle.commands.proofs.Laws.{entry_some, order_some}
-use Rattle.answers.specs.declared.OrderAnswer.{OrderAnswer}
+use Rattle.answers.specs.declared.OrderRefusal.{OrderRefusal}
+use Rattle.answers.specs.declared.Told.{Told}
 use Rattle.answers.specs.OrderAnswers.{answer_said}
 use Rattle.entries.specs.declared.Layout.{Layout}
 use Rattle.entries.specs.Draft.{has_room, added}
@@ -45,7 +47,7 @@ unfolding entry_effect
 full_effect e at m free = rw (free, entry_effect)
 
 -- an order
-pub order_executed : (o : Order) (from : Progress) (layout : Layout) (next end : ℕ) {before after : List ℕ} (a : OrderAnswer) (m t : Machine) →
+pub order_executed : (o : Order) (from : Progress) (layout : Layout) (next end : ℕ) {before after : List ℕ} (a : Result Told OrderRefusal) (m t : Machine) →
     transition_by a t ≡ transition_of o m → Wrote before from.end (order_line o (answer_said a)) after end →
     end ≤ from.end + 10 + width (answer_said a) → next ≡ order_size o →
     GoesOn (order_effect o from.at m) from before after

@@ -17,7 +17,7 @@ ghost use Rattle.export.specs.Bytes.{bytes_in};
 ghost use Rattle.returns.specs.Returns.{opened, moved, valued, hedged, returned};
 
 use returns::{Allotted, Booked, Hedged, Moved, Opened, Unpacked, Valued};
-use sheet::Sheet;
+use sheet::{Brought, Sheet};
 use turns::Turn;
 use walk::Walk;
 
@@ -73,7 +73,7 @@ pub extern "C" fn lavroudem_open(
         ≡ returned 0 (open_call (brought_in sheet numbers.now) register.now walk
         (rows_of defaults.old premiums.old)) }
 {
-    walk.open(sheet, numbers, register, defaults, premiums)
+    walk.open(&Brought { sheet, numbers }, register, defaults, premiums)
         .into()
 }
 
@@ -92,8 +92,14 @@ pub extern "C" fn lavroudem_back(
         ≡ returned 1 (back_call (brought_in sheet numbers.now) register.now walk
         (rows_of defaults.old premiums.old) count) }
 {
-    walk.back(sheet, numbers, register, defaults, premiums, count)
-        .into()
+    walk.back(
+        &Brought { sheet, numbers },
+        register,
+        defaults,
+        premiums,
+        count,
+    )
+    .into()
 }
 
 // D, A and W of a tranche at a count. Tranche r is the index.
@@ -112,8 +118,15 @@ pub extern "C" fn lavroudem_value(
         ≡ returned 3 (value_call (brought_in sheet numbers.now) register.now walk
         (rows_of defaults.now premiums.now) tranche count) }
 {
-    walk.value(sheet, numbers, register, defaults, premiums, tranche, count)
-        .into()
+    walk.value(
+        &Brought { sheet, numbers },
+        register,
+        defaults,
+        premiums,
+        tranche,
+        count,
+    )
+    .into()
 }
 
 // The ratio of a tranche's jump to the index's at a count, in millionths.
@@ -132,8 +145,15 @@ pub extern "C" fn lavroudem_hedge_ratio(
         ≡ returned 1 (ratio_call (brought_in sheet numbers.now) register.now walk
         (rows_of defaults.now premiums.now) tranche count) }
 {
-    walk.hedge_ratio(sheet, numbers, register, defaults, premiums, tranche, count)
-        .into()
+    walk.hedge_ratio(
+        &Brought { sheet, numbers },
+        register,
+        defaults,
+        premiums,
+        tranche,
+        count,
+    )
+    .into()
 }
 
 // The distribution of the default count after so many steps, from no default. It has no walk, and answers the number alone.
@@ -150,7 +170,7 @@ pub extern "C" fn lavroudem_forward(
     ensures leaves { row.new
         ≡ (forward_call (brought_in sheet numbers.now) register.now row.old steps).row }
 {
-    returns::number_in(&walk::forward(sheet, numbers, register, row, steps))
+    returns::number_in(&walk::forward(&Brought { sheet, numbers }, register, row, steps))
 }
 
 // The coupon of a packed image.

@@ -1,5 +1,5 @@
 -- A search over a whole list that has its length is the search that a test of the sheet names.
-use Rattle.std.proofs.Common.{ℕ, pred, ◌+◌, ◌*◌, ◌-◌, ◌^◌, ◌≤◌, ◌<◌, ◌≡◌, refl, ap, ◌∙◌, Bool, false, ◌||◌, List, [], arith, sub-one, length, get_or}
+use Rattle.std.proofs.Common.{ℕ, pred, ◌+◌, ◌*◌, ◌-◌, ◌^◌, ◌≤◌, ◌<◌, ◌≡◌, refl, ap, sym, ◌∙◌, Bool, false, ◌||◌, List, [], arith, sub-one, length, get_or}
 use Rattle.std.proofs.Common.{ltb, eqb, le_refl, mul-le-mul}
 use Rattle.std.specs.List.{sum}
 use Rattle.std.proofs.lemmas.List.{get_or_default}
@@ -7,11 +7,11 @@ use Rattle.std.proofs.lemmas.List.Sums.{sum_by-le}
 use Rattle.cash.specs.Units.{B}
 use Rattle.refusals.proofs.Judged.{any_fine, most_fine}
 use Rattle.sheet.specs.declared.Pool.{Pool}
-use Rattle.sheet.specs.Terms.{Terms, terms_of, sum_of}
+use Rattle.sheet.specs.Terms.{Terms, terms_of, bare, sum_of}
 use Rattle.rows.specs.Tables.{any}
 use Rattle.sheet.specs.Brought.{Brought}
 use Rattle.lists.specs.Outside.{outside}
-use Rattle.refusals.specs.Tests.{attachments_bad, starts_bad, hazards_bad, discounts_bad, accruals_bad, elapsed_bad, coupons_bad}
+use Rattle.refusals.specs.Tests.{pool_bad, attachments_bad, starts_bad, hazards_bad, discounts_bad, accruals_bad, elapsed_bad, coupons_bad}
 use Rattle.lists.proofs.Loops.{falls}
 use Rattle.faults.proofs.Elapsed.{over_next}
 
@@ -66,35 +66,46 @@ module _ (x : Brought) where
   unfolding coupons_bad
   coupons_told s e p = p ∙ (λ t. any (length (s t)) (λ i. ltb 10_000_000 (get_or (s t) i 0))) ∙ same_reach _ e
 
--- What rests on the pool and one list alone, or two.
-module _ (pool : Pool) (attachments starts hazards discounts accruals elapsed l : List ℕ) where
+-- What rests on the pool, and one list or two at most, of the sheet x that the pool and its lists tell.
+module _ (pool : Pool) (attachments starts hazards discounts accruals elapsed : List ℕ) (x : Terms)
+    (x_is : terms_of pool attachments starts hazards discounts accruals elapsed ≡ x) where
   abbrev whole : Terms
   whole = terms_of pool attachments starts hazards discounts accruals elapsed
 
-  attachments_whole : attachments_bad (terms_of pool attachments [] [] [] [] []) ≡ attachments_bad whole
+  pool_whole : pool_bad (bare pool []) ≡ pool_bad whole
+  unfolding pool_bad
+  pool_whole = refl
+
+  pub pool_part : pool_bad (bare pool []) ≡ pool_bad x
+  pool_part = pool_whole ∙ ap pool_bad x_is
+
+  attachments_whole : attachments_bad (bare pool attachments) ≡ attachments_bad whole
   unfolding attachments_bad
   attachments_whole = refl
 
-  pub attachments_part : l ≡ attachments → attachments_bad (terms_of pool l [] [] [] [] []) ≡ attachments_bad whole
-  attachments_part e = ap (λ (y : List ℕ). attachments_bad (terms_of pool y [] [] [] [] [])) e ∙ attachments_whole
+  pub attachments_part : {l : List ℕ} → l ≡ x.attachments → attachments_bad (bare pool l) ≡ attachments_bad x
+  attachments_part e = ap (λ y. attachments_bad (bare pool y)) (e ∙ ap (λ y. y.attachments) (sym x_is)) ∙ attachments_whole ∙ ap attachments_bad x_is
 
   starts_whole : starts_bad (terms_of pool [] starts [] [] [] []) ≡ starts_bad whole
   unfolding starts_bad
   starts_whole = refl
 
-  pub starts_part : l ≡ starts → starts_bad (terms_of pool [] l [] [] [] []) ≡ starts_bad whole
-  starts_part e = ap (λ (y : List ℕ). starts_bad (terms_of pool [] y [] [] [] [])) e ∙ starts_whole
+  pub starts_part : {l : List ℕ} → l ≡ x.starts → starts_bad (terms_of pool [] l [] [] [] []) ≡ starts_bad x
+  starts_part e = ap (λ y. starts_bad (terms_of pool [] y [] [] [] [])) (e ∙ ap (λ y. y.starts) (sym x_is)) ∙ starts_whole ∙ ap starts_bad x_is
 
   accruals_whole : accruals_bad (terms_of pool [] [] [] [] accruals []) ≡ accruals_bad whole
   unfolding accruals_bad
   accruals_whole = refl
 
-  pub accruals_part : l ≡ accruals → accruals_bad (terms_of pool [] [] [] [] l []) ≡ accruals_bad whole
-  accruals_part e = ap (λ (y : List ℕ). accruals_bad (terms_of pool [] [] [] [] y [])) e ∙ accruals_whole
+  pub accruals_part : {l : List ℕ} → l ≡ x.accruals → accruals_bad (terms_of pool [] [] [] [] l []) ≡ accruals_bad x
+  accruals_part e = ap (λ y. accruals_bad (terms_of pool [] [] [] [] y [])) (e ∙ ap (λ y. y.accruals) (sym x_is)) ∙ accruals_whole ∙ ap accruals_bad x_is
 
   elapsed_whole : elapsed_bad (terms_of pool [] [] [] [] accruals elapsed) ≡ elapsed_bad whole
   unfolding elapsed_bad
   elapsed_whole = refl
 
-  pub elapsed_part : (e : List ℕ) → l ≡ accruals → e ≡ elapsed → elapsed_bad (terms_of pool [] [] [] [] l e) ≡ elapsed_bad whole
-  elapsed_part e p q = (λ t. elapsed_bad (terms_of pool [] [] [] [] (p t) (q t))) ∙ elapsed_whole
+  pub elapsed_part : {l e : List ℕ} → l ≡ x.accruals → e ≡ x.elapsed → elapsed_bad (terms_of pool [] [] [] [] l e) ≡ elapsed_bad x
+  elapsed_part {l} {e} p q =
+      let r : l ≡ accruals = p ∙ ap (λ y. y.accruals) (sym x_is) in
+      let t : e ≡ elapsed = q ∙ ap (λ y. y.elapsed) (sym x_is) in
+      (λ i. elapsed_bad (terms_of pool [] [] [] [] (r i) (t i))) ∙ elapsed_whole ∙ ap elapsed_bad x_is

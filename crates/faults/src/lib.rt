@@ -5,12 +5,11 @@
 ghost use Rattle.std.specs.Prelude.{◌≡◌, [], ◌∷◌, ◌+◌, ◌≤◌, length, get_or, drop, ltb};
 ghost use Rattle.sheet.specs.Terms.{bare, terms_of};
 ghost use Rattle.sheet.specs.Dates.{next_accrual};
-ghost use Rattle.sheet.specs.Spans.{list_in, brought_in, terms_in};
 ghost use Rattle.rows.specs.Tables.{any};
-ghost use Rattle.refusals.specs.Tests.{differs, pool_bad, periods_bad, lists_bad, attachments_bad, starts_bad, accruals_bad, elapsed_bad};
+ghost use Rattle.refusals.specs.Tests.{pool_bad, periods_bad, lists_bad, attachments_bad, starts_bad, accruals_bad, elapsed_bad};
 
 use cash::UNITS;
-use sheet::{NAMES_MOST, PERIODS_MOST, Pool, STEPS_MOST, Sheet, Span, TRANCHES_MOST, part};
+use sheet::{Brought, NAMES_MOST, PERIODS_MOST, Pool, STEPS_MOST, TRANCHES_MOST};
 
 // 1: whether the names, steps or tranches are outside their limits.
 #[tactic(auto, unfolding(refusals::specs::Tests::pool_bad))]
@@ -22,37 +21,30 @@ pub fn pool_outside(pool: Pool) -> bool
         || !(1..=TRANCHES_MOST).contains(&pool.tranches)
 }
 
-// Whether the list of a span has another length.
-fn length_differs(span: Span, numbers: &[u64], due: usize) -> bool
-    ensures { result ≡ differs (length (list_in span numbers.now)) due }
-{
-    part(span, numbers).len() != due
-}
-
 // 2, of the periods: whether there is none or more than 16, or the hazards are not n for each.
 #[tactic(auto, unfolding(refusals::specs::Tests::periods_bad))]
-fn periods_differ(sheet: Sheet, numbers: &[u64]) -> bool
-    requires { sheet.pool.names ≤ 125 }
-    ensures { result ≡ periods_bad (terms_in sheet numbers.now) }
+fn periods_differ(brought: &Brought<'_>) -> bool
+    requires { brought.now.sheet.names ≤ 125 }
+    ensures { result ≡ periods_bad brought.now.sheet }
 {
-    let periods = part(sheet.starts, numbers).len();
-    !(1..=PERIODS_MOST).contains(&periods)
-        || length_differs(sheet.hazards, numbers, periods * sheet.pool.names)
+    let periods = brought.starts().len();
+    !(1..=PERIODS_MOST).contains(&periods) || brought.hazards().len() != periods * brought.names()
 }
 
 // 2: whether one of the sheet's own lists has another length. Few names and tranches, so that as many hazards and one more point fit.
 #[tactic(auto, unfolding(refusals::specs::Tests::lists_bad))]
-pub fn lists_differ(sheet: Sheet, numbers: &[u64]) -> bool
-    requires { (sheet.pool.names ≤ 125) × (sheet.pool.tranches ≤ 8) }
-    ensures { result ≡ lists_bad (brought_in sheet numbers.now) }
+pub fn lists_differ(brought: &Brought<'_>) -> bool
+    requires { (brought.now.sheet.names ≤ 125) × (brought.now.sheet.tranches ≤ 8) }
+    ensures { result ≡ lists_bad brought.now }
 {
-    let points = sheet.pool.tranches + 1;
-    length_differs(sheet.attachments, numbers, points)
-        || periods_differ(sheet, numbers)
-        || length_differs(sheet.discounts, numbers, sheet.pool.steps)
-        || length_differs(sheet.accruals, numbers, sheet.pool.steps)
-        || length_differs(sheet.elapsed, numbers, sheet.pool.steps)
-        || length_differs(sheet.coupons, numbers, points)
+    let steps = brought.steps();
+    let points = brought.tranches() + 1;
+    brought.attachments().len() != points
+        || periods_differ(brought)
+        || brought.discounts().len() != steps
+        || brought.accruals().len() != steps
+        || brought.elapsed().len() != steps
+        || brought.coupons().len() != points
 }
 
 // 4: whether the attachment points do not rise, or one is above the pool.

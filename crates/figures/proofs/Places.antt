@@ -1,5 +1,5 @@
 -- Where a node stands in a row, and the figures of one that can be read.
-use Rattle.std.proofs.Common.{◌≡◌, sym, ap, subst, List, ℕ, ◌+◌, ◌*◌, ◌≤◌, ◌<◌, add-one, mul-le-mul_right, arith, get_or}
+use Rattle.std.proofs.Common.{◌≡◌, sym, ◌∙◌, ap, subst, List, ℕ, ◌+◌, ◌*◌, add-one, arith, get_or}
 use Rattle.hedges.specs.declared.Node.{Node}
 use Rattle.hedges.specs.Hedges.{Figures}
 use Rattle.sheet.specs.Terms.{Terms}
@@ -13,13 +13,10 @@ use Rattle.figures.specs.Nodes.{node_of, Readable}
 
 -- ---- where a node stands in a row
 
-pub place_below : (j k r n : ℕ) → j ≤ r → k ≤ n → j * (n + 1) + k < (r + 1) * (n + 1)
-place_below j k r n p q = omega (arith, mul-le-mul_right (n + 1) p)
-
 -- An entry is read at its place.
-pub node_place : (x : Terms) (row : List ℕ) (j k : ℕ) → get_or row (j * (x.names + 1) + k) 0 ≡ node_in x row j k
+pub node_place : (x : Terms) (row : List ℕ) (j k : ℕ) {n : ℕ} → n ≡ x.names → get_or row (j * (n + 1) + k) 0 ≡ node_in x row j k
 unfolding node_in entry
-node_place x row j k = ap (λ (w : ℕ). get_or row (j * w + k) 0) (add-one x.names)
+node_place x row j k e = ap (λ (n : ℕ). get_or row (j * (n + 1) + k) 0) e ∙ ap (λ (w : ℕ). get_or row (j * w + k) 0) (add-one x.names)
 
 -- ---- the figures of a node that can be read
 

@@ -4,13 +4,12 @@
 
 ghost use Rattle.std.specs.Prelude.{◌≡◌, suc, length};
 ghost use Rattle.sheet.specs.Limits.{TranchesWithin};
-ghost use Rattle.sheet.specs.Spans.{brought_in, terms_in};
 ghost use Rattle.rows.specs.Tables.{tab};
 ghost use Rattle.rows.specs.Rows.{rows_of};
 ghost use Rattle.figures.specs.Nodes.{node_of, jump, Readable};
 
 use hedges::Node;
-use sheet::Sheet;
+use sheet::Brought;
 
 pub mod replies; // replies.rt: what accepted calls answer
 
@@ -31,20 +30,19 @@ pub fn clear(row: &mut [u64])
 
 // The loss, D and A of a tranche at a count.
 fn node_at(
-    sheet: Sheet,
-    numbers: &[u64],
+    brought: &Brought<'_>,
     defaults: &[u64],
     premiums: &[u64],
     tranche: usize,
     count: usize,
 ) -> Node
-    requires tranches_within { TranchesWithin (terms_in sheet numbers.now) }
-    requires readable { Readable (brought_in sheet numbers.now) (rows_of defaults.now premiums.now) tranche count }
-    ensures { result ≡ node_of (terms_in sheet numbers.now) (rows_of defaults.now premiums.now) tranche count }
+    requires tranches_within { TranchesWithin brought.now.sheet }
+    requires readable { Readable brought.now (rows_of defaults.now premiums.now) tranche count }
+    ensures { result ≡ node_of brought.now.sheet (rows_of defaults.now premiums.now) tranche count }
 {
-    let place = tranche * (sheet.pool.names + 1) + count;
+    let place = tranche * (brought.names() + 1) + count;
     Node {
-        loss: tranches::loss_at(sheet, numbers, tranche, count),
+        loss: tranches::loss_at(brought, tranche, count),
         default: defaults[place],
         premium: premiums[place],
     }
@@ -52,23 +50,19 @@ fn node_at(
 
 // J of a tranche at a count.
 pub fn jump_at(
-    sheet: Sheet,
-    numbers: &[u64],
+    brought: &Brought<'_>,
     defaults: &[u64],
     premiums: &[u64],
     tranche: usize,
     count: usize,
 ) -> i64
-    requires tranches_within { TranchesWithin (terms_in sheet numbers.now) }
-    requires readable_here { Readable (brought_in sheet numbers.now) (rows_of defaults.now premiums.now) tranche count }
-    requires readable_next { Readable (brought_in sheet numbers.now) (rows_of defaults.now premiums.now) tranche (suc count) }
-    ensures { result ≡ jump (brought_in sheet numbers.now) (rows_of defaults.now premiums.now) tranche count }
+    requires tranches_within { TranchesWithin brought.now.sheet }
+    requires readable_here { Readable brought.now (rows_of defaults.now premiums.now) tranche count }
+    requires readable_next { Readable brought.now (rows_of defaults.now premiums.now) tranche (suc count) }
+    ensures { result ≡ jump brought.now (rows_of defaults.now premiums.now) tranche count }
 {
-    let here = node_at(sheet, numbers, defaults, premiums, tranche, count);
-    let next = node_at(sheet, numbers, defaults, premiums, tranche, count + 1);
-    hedges::jump(
-        sheet::number_at(sheet.coupons, numbers, tranche),
-        here,
-        next,
-    )
+    let here = node_at(brought, defaults, premiums, tranche, count);
+    let next = node_at(brought, defaults, premiums, tranche, count + 1);
+    let coupon = brought.coupons()[tranche];
+    hedges::jump(coupon, here, next)
 }

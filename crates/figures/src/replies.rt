@@ -1,7 +1,6 @@
 // What accepted calls answer.
 ghost use Rattle.std.specs.Prelude.{◌≡◌, ◌≤◌, nat_abs};
 ghost use Rattle.hedges.specs.Hedges.{hedge_of};
-ghost use Rattle.sheet.specs.Spans.{brought_in};
 ghost use Rattle.rows.specs.Rows.{rows_of};
 ghost use Rattle.figures.specs.Nodes.{Readable};
 ghost use Rattle.figures.specs.Answer.{worth_of, ratio_answer};
@@ -10,24 +9,23 @@ ghost use Rattle.figures.specs.Replies.{worth, hedge_answer};
 use crate::Worth;
 use hedges::NoRatio;
 use refusals::Refusal;
-use sheet::Sheet;
+use sheet::Brought;
 
 // D, A and W of a tranche at a count.
 pub fn worth_at(
-    sheet: Sheet,
-    numbers: &[u64],
+    brought: &Brought<'_>,
     defaults: &[u64],
     premiums: &[u64],
     tranche: usize,
     count: usize,
 ) -> Worth
-    requires { Readable (brought_in sheet numbers.now) (rows_of defaults.now premiums.now) tranche count }
-    ensures { worth_of result ≡ worth (brought_in sheet numbers.now) (rows_of defaults.now premiums.now) tranche count }
+    requires { Readable brought.now (rows_of defaults.now premiums.now) tranche count }
+    ensures { worth_of result ≡ worth brought.now (rows_of defaults.now premiums.now) tranche count }
 {
-    let place = tranche * (sheet.pool.names + 1) + count;
+    let place = tranche * (brought.names() + 1) + count;
     let default = defaults[place];
     let premium = premiums[place];
-    let coupon = sheet::number_at(sheet.coupons, numbers, tranche);
+    let coupon = brought.coupons()[tranche];
     Worth {
         default,
         premium,

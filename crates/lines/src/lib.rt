@@ -55,7 +55,7 @@ pub fn put_field(out: &mut [u8], at: usize, x: i64) -> usize
     put_signed(out, at + 1, x)
 }
 
-// Writes an unsigned field: a space and n. (Not one with the signed field: a trait for two types is longer than these lines.)
+// Writes an unsigned field: a space and n. It is no case of put_field: an n from 2^63 on is no i64.
 pub fn put_count(out: &mut [u8], at: usize, n: u64) -> usize
     requires { at + length (field (pos n)) ≤ length out.old }
     ensures { Wrote out.old at (field (pos n)) out.new result }

@@ -6,15 +6,13 @@ use Rattle.refusals.specs.declared.Refusal.{Refusal}
 use Rattle.std.specs.Prelude.{Result, Ok, Err, ⊤}
 use Rattle.sheet.specs.Brought.{Brought}
 use Rattle.refusals.specs.Tests.{first}
-use Rattle.figures.specs.Answer.{Answer, Done, done_answer}
+use Rattle.figures.specs.Answer.{Answer, Refused, Done, done_answer}
 use Rattle.walk.specs.declared.Reply.{Reply}
 use Rattle.rows.specs.Rows.{Rows, rows_of, row_length}
 use Rattle.walk.specs.Answers.{Said, said_of, accepted}
 use Rattle.walk.specs.Calls.{Outcome, ForwardOutcome, replied, forward_outcome, forward_tests, or_forward_outcome, forward_call}
-use Rattle.walk.specs.CallRules.{ForwardRule}
-use Rattle.walk.specs.OurEngine.{forward_result}
 use Rattle.walk.proofs.Judging.{refusal_some}
-use Rattle.machine.specs.Rooms.{lent_rows, left_in_rooms, left_in_row, forward_in_row, count_said, said_beside, count_in_row, distribution_in_row, off_tree_said}
+use Rattle.machine.specs.Rooms.{lent_rows, left_in_rooms, left_in_row, forward_in_row, count_said, said_beside, count_in_row, distribution_in_row}
 
 -- ---- as many as are asked, or all
 
@@ -90,12 +88,6 @@ module _ (x : Brought) (register row row' : List ℕ) (a : Result ⊤ Refusal) (
       ∙ ap (λ (s : Said). said_beside s (cond (accepted s) (row' ++ drop k row) row)) e
       ∙ ap (λ (o : ForwardOutcome). count_in_row x row o count) fills_in
 
-  -- an accepted forward leaves a row of n + 1, so there are at most 125 names
-  pub names_few : a ≡ Ok tt → length row' ≡ length (take k row) → ForwardRule x register (take k row) i (forward_result (forward_outcome a row')) → x.sheet.names ≤ 125
-  names_few e same f =
-      let yes : accepted (said_of (done_answer a)) ≡ true = ap (λ (b : Result ⊤ Refusal). accepted (said_of (done_answer b))) e in
-      omega (arith, (f.does yes).size, same, length-take-le k row (omega arith))
-
 -- what forward says
 pub said_off : (a : Answer) (row : List ℕ) (n k : ℕ) → a ≡ Done → n < k → record { number = 14; values = [] } ≡ count_said a row n k
 unfolding count_said
@@ -106,6 +98,10 @@ unfolding count_said
 said_count a row n k e h = sym (ap (λ (b : Answer). count_said b row n k) e ∙ rw (le-ltb n k h, count_said))
 
 -- what it says of a count above the names, by what it is refused for
+unfoldable pub off_tree_said : Result ⊤ Refusal → Said
+off_tree_said (Ok tt) = record { number = 14; values = [] }
+off_tree_said (Err f) = said_of (Refused f)
+
 off_said : (f : Result ⊤ Refusal) (q row : List ℕ) (o : ForwardOutcome) (n k : ℕ) → o.answer ≡ Done → n < k →
     off_tree_said f ≡ count_said (or_forward_outcome f q o).answer row n k
 unfolding off_tree_said or_forward_outcome count_said

@@ -1,7 +1,6 @@
 -- 'The program lends rows of the right length': a call is lent the first numbers of each room, and what it leaves takes their place.
 -- A room that has fewer is lent whole; its pool is then refused. (document 01, 'Deck and printing program')
-use Rattle.refusals.specs.declared.Refusal.{Refusal}
-use Rattle.std.specs.Prelude.{ℕ, ◌+◌, true, false, cond, List, [], ◌∷◌, ◌++◌, ltb, pos, get_or, take, drop, Result, Ok, Err, ⊤}
+use Rattle.std.specs.Prelude.{ℕ, ◌+◌, true, false, cond, List, [], ◌∷◌, ◌++◌, ltb, pos, get_or, take, drop}
 use Rattle.sheet.specs.Brought.{Brought}
 use Rattle.rows.specs.Rows.{Rows, row_length}
 use Rattle.figures.specs.Answer.{Answer, Refused, Done, Position, Worth, Ratio}
@@ -64,8 +63,3 @@ count_in_row x row o k =
 
 unfoldable pub distribution_in_row : Brought → List ℕ → List ℕ → ℕ → ℕ → ForwardResult
 distribution_in_row x register row i k = count_in_row x row (forward_in_row x register row i) k
-
--- The same of a count above n, by what the call is refused for: the row is only read.
-unfoldable pub off_tree_said : Result ⊤ Refusal → Said
-off_tree_said (Ok tt) = record { number = 14; values = [] }
-off_tree_said (Err f) = said_of (Refused f)

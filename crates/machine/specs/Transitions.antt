@@ -1,12 +1,13 @@
 -- Commands 06 to 0C: what each answers, and the machine after it (document 01, 'Deck and printing program').
-use Rattle.std.specs.Prelude.{ℕ, ◌≡◌, false, List}
+use Rattle.std.specs.Prelude.{ℕ, ◌≡◌, false, List, Result}
 use Rattle.commands.specs.declared.Order.{Order}
 use Rattle.commands.specs.declared.Order.TheVariants.{Issue, Withdraw, Open, Back, Value, Delta, Forward}
 use Rattle.register.specs.Register.{WriteAnswer, issue_answer, issue_leaves, withdraw_answer, withdraw_leaves}
 use Rattle.walk.specs.Answers.{Said, said_of, said_by, accepted}
 use Rattle.walk.specs.CallRules.{ForwardResult}
 use Rattle.walk.specs.Calls.{Outcome}
-use Rattle.answers.specs.declared.OrderAnswer.{OrderAnswer}
+use Rattle.answers.specs.declared.OrderRefusal.{OrderRefusal}
+use Rattle.answers.specs.declared.Told.{Told}
 use Rattle.answers.specs.OrderAnswers.{answer_said}
 use Rattle.machine.specs.Machine.{Machine}
 use Rattle.machine.specs.Rooms.{open_in_rooms, back_in_rooms, value_in_rooms, ratio_in_rooms, distribution_in_row}
@@ -17,7 +18,7 @@ pub record Transition : Type 0 where
   pub next : Machine
 
 -- The same by what the code answers.
-abbrev pub transition_by : OrderAnswer → Machine → Transition
+abbrev pub transition_by : Result Told OrderRefusal → Machine → Transition
 transition_by a m = record { said = answer_said a; next = m }
 
 -- Issue and withdraw change the register alone.

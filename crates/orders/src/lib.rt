@@ -4,7 +4,6 @@
 
 ghost use Rattle.std.specs.Prelude.{◌≡◌, length};
 ghost use Rattle.register.specs.Register.{issue_answer, issue_leaves, withdraw_answer, withdraw_leaves};
-ghost use Rattle.sheet.specs.Spans.{brought_in};
 ghost use Rattle.rows.specs.Rows.{rows_of};
 ghost use Rattle.walk.specs.Answers.{said_by};
 ghost use Rattle.walk.specs.OurEngine.{walk_result};
@@ -13,16 +12,16 @@ ghost use Rattle.machine.specs.Machine.{machine_in, RoomLengths};
 ghost use Rattle.machine.specs.Transitions.{transition_by, transition_of};
 ghost use Rattle.machine.specs.OrderCalls.{reading_of, call_of};
 
-use answers::OrderAnswer;
+use answers::{OrderRefusal, Told};
 use commands::Order;
 use entries::Layout;
-use sheet::Sheet;
+use sheet::Brought;
 use walk::Walk;
 
 // What an order answers, with the walk handed back.
 #[derive(Clone, Copy)]
 pub struct Response {
-    pub answer: OrderAnswer,
+    pub answer: Result<Told, OrderRefusal>,
     pub walk: Walk,
 }
 
@@ -56,38 +55,35 @@ fn withdraw(walk: Walk, register: &mut [u8], number: u8) -> Response
 fn read(
     order: Order,
     walk: Walk,
-    sheet: Sheet,
-    numbers: &[u64],
+    brought: &Brought<'_>,
     register: &[u8],
     defaults: &[u64],
     premiums: &[u64],
 ) -> Response
     requires { (length defaults.now ≡ 1134) × (length premiums.now ≡ 1134) }
     ensures { record { said = answer_said result.answer; walk = result.walk; rows = rows_of defaults.now premiums.now }
-        ≡ walk_result (reading_of order (brought_in sheet numbers.now) register.now walk
+        ≡ walk_result (reading_of order brought.now register.now walk
         (rows_of defaults.now premiums.now)) }
 {
     match order {
         Order::Value { tranche, count } => {
-            let reply = rooms::value(
-                walk, sheet, numbers, register, defaults, premiums, tranche, count,
-            );
+            let reply = rooms::value(walk, brought, register, defaults, premiums, tranche, count);
             Response {
-                answer: reply.answer.into(),
+                answer: answers::of_value(reply.answer),
                 walk: reply.walk,
             }
         }
         Order::Delta { tranche, count } => {
             let reply = rooms::hedge_ratio(
-                walk, sheet, numbers, register, defaults, premiums, tranche, count,
+                walk, brought, register, defaults, premiums, tranche, count,
             );
             Response {
-                answer: reply.answer.into(),
+                answer: answers::of_hedge_ratio(reply.answer),
                 walk: reply.walk,
             }
         }
         _ => Response {
-            answer: OrderAnswer::Done,
+            answer: Ok(Told::Done),
             walk,
         },
     }
@@ -97,33 +93,32 @@ fn read(
 fn call(
     order: Order,
     walk: Walk,
-    sheet: Sheet,
-    numbers: &[u64],
+    brought: &Brought<'_>,
     register: &[u8],
     defaults: &mut [u64],
     premiums: &mut [u64],
 ) -> Response
     requires { (length defaults.old ≡ 1134) × (length premiums.old ≡ 1134) }
     ensures { record { said = answer_said result.answer; walk = result.walk; rows = rows_of defaults.new premiums.new }
-        ≡ walk_result (call_of order (brought_in sheet numbers.now) register.now walk
+        ≡ walk_result (call_of order brought.now register.now walk
         (rows_of defaults.old premiums.old)) }
 {
     match order {
         Order::Open => {
-            let reply = rooms::open(walk, sheet, numbers, register, defaults, premiums);
+            let reply = rooms::open(walk, brought, register, defaults, premiums);
             Response {
-                answer: reply.answer.into(),
+                answer: answers::of_open(reply.answer),
                 walk: reply.walk,
             }
         }
         Order::Back(count) => {
-            let reply = rooms::back(walk, sheet, numbers, register, defaults, premiums, count);
+            let reply = rooms::back(walk, brought, register, defaults, premiums, count);
             Response {
-                answer: reply.answer.into(),
+                answer: answers::of_back(reply.answer),
                 walk: reply.walk,
             }
         }
-        _ => read(order, walk, sheet, numbers, register, defaults, premiums),
+        _ => read(order, walk, brought, register, defaults, premiums),
     }
 }
 
@@ -145,14 +140,17 @@ pub fn act(
         ≡ transition_of order
         (machine_in layout walk numbers.now register.old defaults.old premiums.old row.old) }
 {
-    let sheet = layout.sheet;
+    let brought = Brought {
+        sheet: layout.sheet,
+        numbers,
+    };
     match order {
         Order::Issue(number) => issue(walk, register, number),
         Order::Withdraw(number) => withdraw(walk, register, number),
         Order::Forward { step, count } => {
-            let answer = rooms::forward(sheet, numbers, register, row, step, count);
+            let answer = rooms::forward(&brought, register, row, step, count);
             Response { answer, walk }
         }
-        _ => call(order, walk, sheet, numbers, register, defaults, premiums),
+        _ => call(order, walk, &brought, register, defaults, premiums),
     }
 }

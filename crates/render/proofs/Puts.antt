@@ -6,9 +6,11 @@ use Rattle.lines.proofs.Laws.{wrote_text, wrote_both, wrote_long, length_decimal
 use Rattle.hedges.proofs.Negated.{read, read_is}
 use Rattle.commands.specs.declared.Order.{Order}
 use Rattle.commands.specs.declared.Order.TheVariants.{Issue, Withdraw, Open, Back, Value, Delta, Forward}
-use Rattle.answers.specs.declared.OrderAnswer.{OrderAnswer}
-use Rattle.answers.specs.declared.OrderAnswer.TheVariants.{Refused, Done, Position, Worth, Ratio, Probability}
-use Rattle.answers.specs.OrderAnswers.{answer_said}
+use Rattle.std.specs.Prelude.{Result, Ok, Err}
+use Rattle.answers.specs.declared.OrderRefusal.{OrderRefusal}
+use Rattle.answers.specs.declared.Told.{Told}
+use Rattle.answers.specs.declared.Told.TheVariants.{Done, Position, Worth, Ratio, Probability}
+use Rattle.answers.specs.OrderAnswers.{told_values, answer_said}
 use Rattle.render.specs.Lines.{width}
 use Rattle.words.specs.Words.{word}
 
@@ -75,10 +77,13 @@ word_long (Delta j k) = lit≤ tt
 word_long (Forward i k) = lit≤ tt
 
 -- an answer has three values at most
-pub width_most : (a : OrderAnswer) → width (answer_said a) ≤ 66
-width_most (Refused n) = lit≤ tt
-width_most Done = lit≤ tt
-width_most (Position i) = lit≤ tt
-width_most (Worth d p w) = lit≤ tt
-width_most (Ratio z) = lit≤ tt
-width_most (Probability q) = lit≤ tt
+pub values_most : (told : Told) → length (told_values told) ≤ 3
+values_most Done = lit≤ tt
+values_most (Position i) = lit≤ tt
+values_most (Worth w) = lit≤ tt
+values_most (Ratio z) = lit≤ tt
+values_most (Probability q) = lit≤ tt
+
+pub width_most : (a : Result Told OrderRefusal) → width (answer_said a) ≤ 66
+width_most (Ok told) = omega (arith, values_most told)
+width_most (Err refusal) = lit≤ tt

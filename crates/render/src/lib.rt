@@ -2,50 +2,55 @@
 
 #![tactic(auto)]
 
-ghost use Rattle.std.specs.Prelude.{◌+◌, ◌≤◌, length};
+ghost use Rattle.std.specs.Prelude.{◌+◌, ◌*◌, ◌≤◌, length};
 ghost use Rattle.lines.specs.Text.{Wrote};
-ghost use Rattle.answers.specs.OrderAnswers.{answer_said};
-ghost use Rattle.render.specs.Lines.{answer_text, order_line, deck_line, width};
+ghost use Rattle.answers.specs.OrderAnswers.{told_values, answer_said};
+ghost use Rattle.render.specs.Lines.{fields, answer_text, order_line, deck_line, width};
 
-use answers::OrderAnswer;
+use answers::{OrderRefusal, Told};
 use commands::Order;
 
+// An accepted order's values, each behind a space.
+fn put_told(out: &mut [u8], at: usize, told: Told) -> usize
+    requires { at + 63 ≤ length out.old }
+    ensures writes { Wrote out.old at (fields (told_values told)) out.new result }
+    ensures short { result ≤ at + 21 * length (told_values told) }
+{
+    match told {
+        Told::Done => at,
+        Told::Position(position) => lines::put_count(out, at, position as u64),
+        Told::Worth(worth) => {
+            let b = lines::put_count(out, at, worth.default);
+            let c = lines::put_count(out, b, worth.premium);
+            lines::put_field(out, c, worth.net)
+        }
+        Told::Ratio(ratio) => lines::put_field(out, at, ratio),
+        Told::Probability(q) => lines::put_count(out, at, q),
+    }
+}
+
 // A refusal, or 0 and the answer.
-fn put_answer(out: &mut [u8], at: usize, answer: OrderAnswer) -> usize
+fn put_answer(out: &mut [u8], at: usize, answer: Result<Told, OrderRefusal>) -> usize
     requires { at + 66 ≤ length out.old }
     ensures writes { Wrote out.old at (answer_text (answer_said answer)) out.new result }
     ensures short { result ≤ at + width (answer_said answer) }
 {
     match answer {
-        OrderAnswer::Refused(number) => {
-            return lines::put_decimal(out, at, number as u64);
-        }
-        OrderAnswer::Done => {
-            return lines::put_decimal(out, at, 0);
-        }
-        OrderAnswer::Position(position) => {
+        Ok(told) => {
             let b = lines::put_decimal(out, at, 0);
-            return lines::put_count(out, b, position as u64);
+            put_told(out, b, told)
         }
-        OrderAnswer::Worth(d, a, w) => {
-            let b = lines::put_decimal(out, at, 0);
-            let c = lines::put_count(out, b, d);
-            let e = lines::put_count(out, c, a);
-            return lines::put_field(out, e, w);
-        }
-        OrderAnswer::Ratio(ratio) => {
-            let b = lines::put_decimal(out, at, 0);
-            return lines::put_field(out, b, ratio);
-        }
-        OrderAnswer::Probability(q) => {
-            let b = lines::put_decimal(out, at, 0);
-            return lines::put_count(out, b, q);
-        }
+        Err(refusal) => lines::put_decimal(out, at, u8::from(refusal) as u64),
     }
 }
 
 // The line of an order.
-pub fn put_line(out: &mut [u8], at: usize, order: Order, answer: OrderAnswer) -> usize
+pub fn put_line(
+    out: &mut [u8],
+    at: usize,
+    order: Order,
+    answer: Result<Told, OrderRefusal>,
+) -> usize
     requires { at + 76 ≤ length out.old }
     ensures writes { Wrote out.old at (order_line order (answer_said answer)) out.new result }
     ensures short { result ≤ at + 10 + width (answer_said answer) }

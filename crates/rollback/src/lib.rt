@@ -3,38 +3,33 @@
 #![tactic(auto)]
 
 ghost use Rattle.std.specs.Prelude.{◌≡◌};
-ghost use Rattle.sheet.specs.Spans.{terms_in};
 ghost use Rattle.tree.specs.Sheet.{default_of, premium_of};
 ghost use Rattle.rows.specs.Rows.{rolled_back};
 ghost use Rattle.rows.specs.Rollable.{Rollable};
 
 use backward::walk_with_tables;
-use sheet::{ROW_MOST, Sheet};
+use sheet::{Brought, ROW_MOST};
 
 // Takes both rows count steps back from a position.
 pub fn walk_back(
-    sheet: Sheet,
-    numbers: &[u64],
+    brought: &Brought<'_>,
     defaults: &mut [u64],
     premiums: &mut [u64],
     position: usize,
     count: usize,
 )
-    requires { Rollable (terms_in sheet numbers.now) defaults.old premiums.old position count }
+    requires { Rollable brought.now.sheet defaults.old premiums.old position count }
     ensures defaults_after { defaults.new
-        ≡ rolled_back (terms_in sheet numbers.now) (default_of (terms_in sheet numbers.now)) position count
-        defaults.old }
+        ≡ rolled_back brought.now.sheet (default_of brought.now.sheet) position count defaults.old }
     ensures premiums_after { premiums.new
-        ≡ rolled_back (terms_in sheet numbers.now) (premium_of (terms_in sheet numbers.now)) position count
-        premiums.old }
+        ≡ rolled_back brought.now.sheet (premium_of brought.now.sheet) position count premiums.old }
 {
     let mut paid = [0u64; ROW_MOST];
     let mut left = [0u64; ROW_MOST];
     let mut earned = [0u64; ROW_MOST];
-    let size = (sheet.pool.tranches + 1) * (sheet.pool.names + 1);
+    let size = (brought.tranches() + 1) * (brought.names() + 1);
     walk_with_tables(
-        sheet,
-        numbers,
+        brought,
         defaults,
         premiums,
         position,

@@ -2,9 +2,7 @@
 
 #![tactic(auto)]
 
-ghost use Rattle.std.specs.Prelude.{◌≡◌, [], ◌+◌, min, length};
-ghost use Rattle.sheet.specs.Spans.{brought_in};
-ghost use Rattle.sheet.specs.Terms.{bare};
+ghost use Rattle.std.specs.Prelude.{◌≡◌, ◌+◌, min, length};
 ghost use Rattle.rows.specs.Rows.{rows_of, row_length};
 ghost use Rattle.figures.specs.Answer.{done_answer, position_answer, worth_answer, ratio_answer};
 ghost use Rattle.walk.specs.Calls.{replied};
@@ -16,25 +14,26 @@ ghost use Rattle.machine.specs.Rooms.{
   ratio_in_rooms,
   said_beside,
   distribution_in_row,
-  off_tree_said,
 };
 
-use answers::OrderAnswer;
+use answers::{OrderRefusal, Told};
 use refusals::Refusal;
-use sheet::{COUNTS_MOST, NAMES_MOST, Pool, ROW_MOST, Sheet};
+use sheet::{Brought, COUNTS_MOST, NAMES_MOST, ROW_MOST};
 use walk::{Reply, Walk, Worth};
 
 // How many numbers of a room are lent: those of the sheet's rows. All of it where they are more, whose pool is refused.
-fn row_size(pool: Pool) -> usize
-    ensures { result ≡ min (row_length (bare pool [])) 1134 }
+fn row_size(brought: &Brought<'_>) -> usize
+    ensures { result ≡ min (row_length brought.now.sheet) 1134 }
 {
-    if ROW_MOST <= pool.tranches {
+    let tranches = brought.tranches();
+    let names = brought.names();
+    if ROW_MOST <= tranches {
         return ROW_MOST;
     }
-    if ROW_MOST <= pool.names {
+    if ROW_MOST <= names {
         return ROW_MOST;
     }
-    let size = (pool.tranches + 1) * (pool.names + 1);
+    let size = (tranches + 1) * (names + 1);
     if ROW_MOST < size {
         return ROW_MOST;
     }
@@ -42,33 +41,31 @@ fn row_size(pool: Pool) -> usize
 }
 
 // The same of the forward row.
-fn forward_size(pool: Pool) -> usize
-    ensures { result ≡ min (pool.names + 1) 126 }
+fn forward_size(names: usize) -> usize
+    ensures { result ≡ min (names + 1) 126 }
 {
-    if NAMES_MOST < pool.names {
+    if NAMES_MOST < names {
         return COUNTS_MOST;
     }
-    pool.names + 1
+    names + 1
 }
 
 // Open on the rooms.
 pub fn open(
     walk: Walk,
-    sheet: Sheet,
-    numbers: &[u64],
+    brought: &Brought<'_>,
     register: &[u8],
     defaults: &mut [u64],
     premiums: &mut [u64],
 ) -> Reply<()>
     requires { (length defaults.old ≡ 1134) × (length premiums.old ≡ 1134) }
     ensures { replied done_answer result defaults.new premiums.new
-        ≡ open_in_rooms (brought_in sheet numbers.now) register.now walk
+        ≡ open_in_rooms brought.now register.now walk
         (rows_of defaults.old premiums.old) }
 {
-    let size = row_size(sheet.pool);
+    let size = row_size(brought);
     walk.open(
-        sheet,
-        numbers,
+        brought,
         register,
         &mut defaults[..size],
         &mut premiums[..size],
@@ -78,8 +75,7 @@ pub fn open(
 // Back on the rooms.
 pub fn back(
     walk: Walk,
-    sheet: Sheet,
-    numbers: &[u64],
+    brought: &Brought<'_>,
     register: &[u8],
     defaults: &mut [u64],
     premiums: &mut [u64],
@@ -87,13 +83,12 @@ pub fn back(
 ) -> Reply<usize>
     requires { (length defaults.old ≡ 1134) × (length premiums.old ≡ 1134) }
     ensures { replied position_answer result defaults.new premiums.new
-        ≡ back_in_rooms (brought_in sheet numbers.now) register.now walk
+        ≡ back_in_rooms brought.now register.now walk
         (rows_of defaults.old premiums.old) count }
 {
-    let size = row_size(sheet.pool);
+    let size = row_size(brought);
     walk.back(
-        sheet,
-        numbers,
+        brought,
         register,
         &mut defaults[..size],
         &mut premiums[..size],
@@ -104,8 +99,7 @@ pub fn back(
 // Value on the rooms.
 pub fn value(
     walk: Walk,
-    sheet: Sheet,
-    numbers: &[u64],
+    brought: &Brought<'_>,
     register: &[u8],
     defaults: &[u64],
     premiums: &[u64],
@@ -114,13 +108,12 @@ pub fn value(
 ) -> Reply<Worth>
     requires { (length defaults.now ≡ 1134) × (length premiums.now ≡ 1134) }
     ensures { replied worth_answer result defaults.now premiums.now
-        ≡ value_in_rooms (brought_in sheet numbers.now) register.now walk
+        ≡ value_in_rooms brought.now register.now walk
         (rows_of defaults.now premiums.now) tranche count }
 {
-    let size = row_size(sheet.pool);
+    let size = row_size(brought);
     walk.value(
-        sheet,
-        numbers,
+        brought,
         register,
         &defaults[..size],
         &premiums[..size],
@@ -132,8 +125,7 @@ pub fn value(
 // Hedge ratio on the rooms.
 pub fn hedge_ratio(
     walk: Walk,
-    sheet: Sheet,
-    numbers: &[u64],
+    brought: &Brought<'_>,
     register: &[u8],
     defaults: &[u64],
     premiums: &[u64],
@@ -142,13 +134,12 @@ pub fn hedge_ratio(
 ) -> Reply<i64>
     requires { (length defaults.now ≡ 1134) × (length premiums.now ≡ 1134) }
     ensures { replied ratio_answer result defaults.now premiums.now
-        ≡ ratio_in_rooms (brought_in sheet numbers.now) register.now walk
+        ≡ ratio_in_rooms brought.now register.now walk
         (rows_of defaults.now premiums.now) tranche count }
 {
-    let size = row_size(sheet.pool);
+    let size = row_size(brought);
     walk.hedge_ratio(
-        sheet,
-        numbers,
+        brought,
         register,
         &defaults[..size],
         &premiums[..size],
@@ -157,35 +148,24 @@ pub fn hedge_ratio(
     )
 }
 
-// What forward says of a count above the names, by what it is refused for: 14 where that is nothing.
-fn off_tree(found: Result<(), Refusal>) -> OrderAnswer
-    ensures { answer_said result ≡ off_tree_said found }
-{
-    let refusal = found.err().unwrap_or(Refusal::OffTree);
-    OrderAnswer::Refused(refusal.into())
-}
-
 // Forward, and what it says of a count. 14 comes after the call's own refusals, and leaves the row as they do: it is judged on what is only read.
 pub fn forward(
-    sheet: Sheet,
-    numbers: &[u64],
+    brought: &Brought<'_>,
     register: &[u8],
     row: &mut [u64],
     steps: usize,
     count: usize,
-) -> OrderAnswer
+) -> Result<Told, OrderRefusal>
     requires { length row.old ≡ 126 }
     ensures { said_beside (answer_said result) row.new
-        ≡ distribution_in_row (brought_in sheet numbers.now) register.now row.old steps count }
+        ≡ distribution_in_row brought.now register.now row.old steps count }
 {
-    let pool = sheet.pool;
-    let size = forward_size(pool);
-    if pool.names < count {
-        let found = walk::judge_forward(sheet, numbers, register, &row[..size], steps);
-        return off_tree(found);
+    let names = brought.names();
+    let size = forward_size(names);
+    if names < count {
+        walk::judge_forward(brought, register, &row[..size], steps)?;
+        return Err(Refusal::OffTree.into());
     }
-    match walk::forward(sheet, numbers, register, &mut row[..size], steps) {
-        Ok(()) => OrderAnswer::Probability(row[count]),
-        Err(refusal) => OrderAnswer::Refused(refusal.into()),
-    }
+    walk::forward(brought, register, &mut row[..size], steps)?;
+    Ok(Told::Probability(row[count]))
 }

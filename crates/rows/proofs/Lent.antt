@@ -1,20 +1,13 @@
--- The front of an array, lent.
-use Rattle.std.proofs.Common.{ℕ, zero, suc, ◌+◌, ◌*◌, ◌≤◌, ◌≡◌, refl, sym, ◌∙◌, List, mul-le-mul, add-one, arith, length, get_or, take, replicate}
-use Rattle.std.proofs.Common.{length-take-le}
+-- The rows of a sheet and the front of an array, lent.
+use Rattle.std.proofs.Common.{ℕ, zero, suc, ◌+◌, ◌*◌, ◌≤◌, ◌≡◌, refl, mul-le-mul, add-one, arith, get_or, take, replicate}
 
 -- 9 rows of 126 counts are enough
 pub enough : (r n : ℕ) → r ≤ 8 → n ≤ 125 → (r + 1) * (n + 1) ≤ 1134
 enough r n a b = mul-le-mul {n₁ = r + 1} {m₁ = n + 1} {n₂ = 9} {m₂ = 126} (omega arith) (omega arith)
 
-pub front : (k : ℕ) (l : List ℕ) (m : ℕ) → length l ≡ m → k ≤ m → k ≡ length (take k l)
-front k l m e h = sym (length-take-le k l (omega arith))
-
 -- the rows of a sheet, as the code counts them
 pub row_size : (r n : ℕ) → (r + 1) * (n + 1) ≡ suc r * suc n
 row_size r n = λ t. add-one r t * add-one n t
-
-pub front_size : (r n : ℕ) (l : List ℕ) (m : ℕ) → length l ≡ m → (r + 1) * (n + 1) ≤ m → length (take ((r + 1) * (n + 1)) l) ≡ suc r * suc n
-front_size r n l m e h = sym (front _ l m e h) ∙ row_size r n
 
 -- zeros at every place, and past the end
 pub zeros_front : (k m i : ℕ) → ◌≡◌ {A = ℕ} (get_or (take k (replicate m 0)) i 0) 0

@@ -3,8 +3,7 @@ use Rattle.std.proofs.Common.{ℕ, ◌+◌, ◌≤◌, ◌<◌, le_trans, ◌≡
 use native.Mathlib.Decide.{dec_lt}
 use lib.ListN.{get_or-eq_default}
 use Rattle.cash.specs.Units.{B}
-use Rattle.sheet.specs.declared.Pool.{Pool}
-use Rattle.sheet.specs.Terms.{Terms, terms_of, bare}
+use Rattle.sheet.specs.Terms.{Terms}
 use Rattle.sheet.specs.Brought.{Brought}
 use Rattle.sheet.specs.Limits.{TranchesWithin, TermsWithin, Limits}
 use Rattle.sheet.proofs.Dates.{next_most}
@@ -35,17 +34,6 @@ module _ (x : Terms) (w : TermsWithin x) where
     where
       below : (i n : ℕ) → get_or (drop i x.accruals) n 0 ≤ B
       below i n = omega (arith, get_or-drop i x.accruals n 0, accrual_most (i + n))
-
--- A sheet's tranches are those of its pool and attachment points alone.
-pub tranches_bare : (pool : Pool) (attachments starts hazards discounts accruals elapsed : List ℕ) →
-    TranchesWithin (terms_of pool attachments starts hazards discounts accruals elapsed) → TranchesWithin (bare pool attachments)
-tranches_bare pool attachments starts hazards discounts accruals elapsed t =
-    record {
-      pool = record { names = t.pool.names; steps = t.pool.steps; tranches = t.pool.tranches };
-      points = t.points;
-      recovery = t.recovery;
-      attachments = record { rise = t.attachments.rise; most = t.attachments.most };
-    }
 
 -- The part of a sheet's limits that its values rest on.
 pub limits_terms : (x : Brought) → Limits x → TermsWithin x.sheet

@@ -2,8 +2,11 @@
 
 #![tactic(auto)]
 
-ghost use Rattle.std.specs.Prelude.{◌≡◌, ◌<◌, length, get_or};
-ghost use Rattle.sheet.specs.Spans.{list_in};
+ghost use Rattle.std.specs.Prelude.{◌≡◌};
+ghost use Rattle.sheet.specs.Spans.{list_in, brought_in};
+ghost use Rattle.sheet.specs.Brought as Told;
+
+use std::marker::Model;
 
 // The most names, steps and tranches of a sheet.
 pub const NAMES_MOST: usize = 125;
@@ -58,6 +61,93 @@ pub struct Sheet {
     pub coupons: Span,
 }
 
+// A sheet with the numbers that are lent beside it. A contract sees the sheet that it tells.
+#[derive(Drop)]
+pub struct Brought<'a> {
+    pub sheet: Sheet,
+    pub numbers: &'a [u64],
+}
+
+impl<'a> Model for Brought<'a> {
+    ghost Value = { Told.Brought };
+
+    ghost view = { λ s. brought_in s.sheet s.numbers.now };
+}
+
+impl<'a> Brought<'a> {
+    pub fn names(&self) -> usize
+        ensures { result ≡ self.now.sheet.names }
+    {
+        self.sheet.pool.names
+    }
+
+    pub fn steps(&self) -> usize
+        ensures { result ≡ self.now.sheet.steps }
+    {
+        self.sheet.pool.steps
+    }
+
+    pub fn tranches(&self) -> usize
+        ensures { result ≡ self.now.sheet.tranches }
+    {
+        self.sheet.pool.tranches
+    }
+
+    pub fn recovery(&self) -> u64
+        ensures { result ≡ self.now.sheet.recovery }
+    {
+        self.sheet.pool.recovery
+    }
+
+    pub fn number(&self) -> u8
+        ensures { result ≡ self.now.number }
+    {
+        self.sheet.pool.number
+    }
+
+    pub fn attachments(&self) -> &'a [u64]
+        ensures { result.now ≡ self.now.sheet.attachments }
+    {
+        part(self.sheet.attachments, self.numbers)
+    }
+
+    pub fn starts(&self) -> &'a [u64]
+        ensures { result.now ≡ self.now.sheet.starts }
+    {
+        part(self.sheet.starts, self.numbers)
+    }
+
+    pub fn hazards(&self) -> &'a [u64]
+        ensures { result.now ≡ self.now.sheet.hazards }
+    {
+        part(self.sheet.hazards, self.numbers)
+    }
+
+    pub fn discounts(&self) -> &'a [u64]
+        ensures { result.now ≡ self.now.sheet.discounts }
+    {
+        part(self.sheet.discounts, self.numbers)
+    }
+
+    pub fn accruals(&self) -> &'a [u64]
+        ensures { result.now ≡ self.now.sheet.accruals }
+    {
+        part(self.sheet.accruals, self.numbers)
+    }
+
+    pub fn elapsed(&self) -> &'a [u64]
+        ensures { result.now ≡ self.now.sheet.elapsed }
+    {
+        part(self.sheet.elapsed, self.numbers)
+    }
+
+    pub fn coupons(&self) -> &'a [u64]
+        ensures { result.now ≡ self.now.coupons }
+    {
+        part(self.sheet.coupons, self.numbers)
+    }
+}
+
 // The list of a span. One that reaches past the end has none: it is empty, which no list of a sheet may be (2).
 pub fn part<'a>(span: Span, numbers: &'a [u64]) -> &'a [u64]
     ensures { result.now ≡ list_in span numbers.now }
@@ -67,12 +157,4 @@ pub fn part<'a>(span: Span, numbers: &'a [u64]) -> &'a [u64]
         return &[];
     };
     numbers.get(at..end).unwrap_or(&[])
-}
-
-// The number at a place of a span's list.
-pub fn number_at(span: Span, numbers: &[u64], place: usize) -> u64
-    requires { place < length (list_in span numbers.now) }
-    ensures { result ≡ get_or (list_in span numbers.now) place 0 }
-{
-    part(span, numbers)[place]
 }

@@ -6,23 +6,21 @@ ghost use Rattle.std.specs.Prelude.{◌≡◌, suc, ◌*◌, ◌/◌, ◌≤◌,
 ghost use Rattle.cash.specs.Units.{B};
 ghost use Rattle.sheet.specs.Terms.{bare};
 ghost use Rattle.sheet.specs.Limits.{TranchesWithin};
-ghost use Rattle.sheet.specs.Spans.{terms_in};
 ghost use Rattle.tree.specs.Sheet.{loss_of, outstanding_of};
 ghost use Rattle.rows.specs.Kernels.{pool_losses, lower_of, upper_of};
 
-use sheet::{Pool, Sheet};
+use sheet::{Brought, Pool};
 
 // M(k) of a tranche.
-pub fn loss_at(sheet: Sheet, numbers: &[u64], tranche: usize, count: usize) -> u64
-    requires tranches_within { TranchesWithin (terms_in sheet numbers.now) }
-    requires node_inside { (tranche ≤ sheet.pool.tranches) × (count ≤ sheet.pool.names) }
-    ensures { result ≡ loss_of (terms_in sheet numbers.now) tranche count }
+pub fn loss_at(brought: &Brought<'_>, tranche: usize, count: usize) -> u64
+    requires tranches_within { TranchesWithin brought.now.sheet }
+    requires node_inside { (tranche ≤ brought.now.sheet.tranches) × (count ≤ brought.now.sheet.names) }
+    ensures { result ≡ loss_of brought.now.sheet tranche count }
 {
-    let loss = cash::pool_loss(sheet.pool.names, sheet.pool.recovery, count);
-    if tranche < sheet.pool.tranches {
-        let lower = sheet::number_at(sheet.attachments, numbers, tranche);
-        let upper = sheet::number_at(sheet.attachments, numbers, tranche + 1);
-        cash::tranche_loss(lower, upper, loss)
+    let loss = cash::pool_loss(brought.names(), brought.recovery(), count);
+    if tranche < brought.tranches() {
+        let attachments = brought.attachments();
+        cash::tranche_loss(attachments[tranche], attachments[tranche + 1], loss)
     } else {
         loss
     }

@@ -1,5 +1,5 @@
 // The calls on what a trial lends, each handing its walk to the next. They print the number that is answered, and the figures if it is 0.
-use sheet::Sheet;
+use sheet::Brought;
 use std::io;
 use trial::numbers::Trial;
 use trial::place::Place;
@@ -9,8 +9,7 @@ use walk::Walk;
 // What a trial lends to the calls of a walk.
 #[derive(Drop)]
 pub struct Lent<'a> {
-    pub sheet: Sheet,
-    pub numbers: &'a [u64],
+    pub brought: Brought<'a>,
     pub register: &'a [u8],
     pub defaults: &'a mut [u64],
     pub premiums: &'a mut [u64],
@@ -27,8 +26,7 @@ fn held(trial: Trial) -> Walk {
 
 fn ratio(rt: &impl Print, trial: Trial, walk: Walk, lent: &Lent) -> io::Result<()> {
     let reply = walk.hedge_ratio(
-        lent.sheet,
-        lent.numbers,
+        &lent.brought,
         lent.register,
         lent.defaults,
         lent.premiums,
@@ -40,8 +38,7 @@ fn ratio(rt: &impl Print, trial: Trial, walk: Walk, lent: &Lent) -> io::Result<(
 
 fn value(rt: &impl Print, trial: Trial, walk: Walk, lent: &Lent) -> io::Result<Walk> {
     let reply = walk.value(
-        lent.sheet,
-        lent.numbers,
+        &lent.brought,
         lent.register,
         lent.defaults,
         lent.premiums,
@@ -54,8 +51,7 @@ fn value(rt: &impl Print, trial: Trial, walk: Walk, lent: &Lent) -> io::Result<W
 
 fn back(rt: &impl Print, trial: Trial, walk: Walk, lent: &mut Lent) -> io::Result<Walk> {
     let reply = walk.back(
-        lent.sheet,
-        lent.numbers,
+        &lent.brought,
         lent.register,
         lent.defaults,
         lent.premiums,
@@ -67,13 +63,7 @@ fn back(rt: &impl Print, trial: Trial, walk: Walk, lent: &mut Lent) -> io::Resul
 
 fn open(rt: &impl Print, lent: &mut Lent) -> io::Result<Walk> {
     let walk = Walk::fresh();
-    let reply = walk.open(
-        lent.sheet,
-        lent.numbers,
-        lent.register,
-        lent.defaults,
-        lent.premiums,
-    );
+    let reply = walk.open(&lent.brought, lent.register, lent.defaults, lent.premiums);
     print::opened(rt, reply.answer)?;
     Ok(reply.walk)
 }
@@ -93,8 +83,7 @@ pub fn walk(rt: &impl Print, trial: Trial, lent: &mut Lent) -> io::Result<()> {
 // Forward, with Q(0), Q(1) and the last of the row.
 pub fn forward(rt: &impl Print, trial: Trial, lent: &Lent, row: &mut [u64]) -> io::Result<()> {
     let answer = walk::forward(
-        lent.sheet,
-        lent.numbers,
+        &lent.brought,
         lent.register,
         row,
         trial.size(Place::Forward),

@@ -1,5 +1,6 @@
 // The calls of a trial, on what it lends, in one line.
 use crate::calls::{Lent, forward, walk};
+use sheet::Brought;
 use std::io;
 use trial::numbers::Trial;
 use trial::parts::{first, first_mut};
@@ -17,8 +18,10 @@ pub fn sheet(rt: &impl Print, trial: Trial) -> io::Result<()> {
     let defaults_lent = lengths::row_length(trial, Place::DefaultsLent);
     let premiums_lent = lengths::row_length(trial, Place::PremiumsLent);
     let mut lent = Lent {
-        sheet: spans::sheet(trial),
-        numbers: &numbers,
+        brought: Brought {
+            sheet: spans::sheet(trial),
+            numbers: &numbers,
+        },
         register: first(&register, trial.size(Place::RegisterLent)),
         defaults: first_mut(&mut defaults, defaults_lent),
         premiums: first_mut(&mut premiums, premiums_lent),

@@ -3,7 +3,6 @@
 #![tactic(auto)]
 
 ghost use Rattle.std.specs.Prelude.{◌≡◌, []};
-ghost use Rattle.sheet.specs.Spans.{brought_in};
 ghost use Rattle.walk.specs.Answers;
 ghost use Rattle.walk.specs.CallLists.{own_rows, opening, back, value};
 ghost use Rattle.walk.specs.CallRules.{RatioRule, ForwardRule};
@@ -18,7 +17,7 @@ ghost use Rattle.walk.specs.Calls.{open_call, back_call, value_call, ratio_call,
 pub use figures::Worth;
 use figures::replies;
 pub use refusals::Refusal;
-pub use sheet::{Pool, Sheet};
+pub use sheet::{Brought, Pool, Sheet};
 
 // A walk: whether it is open, the number of its sheet, and the step it stands at. A fresh one is all zeros.
 #[repr(C)]
@@ -51,49 +50,46 @@ impl Walk {
     // Starts a walk at the last step, with both rows zero.
     pub fn open(
         mut self,
-        sheet: Sheet,
-        numbers: &[u64],
+        brought: &Brought<'_>,
         register: &[u8],
         defaults: &mut [u64],
         premiums: &mut [u64],
     ) -> Reply<()>
         ensures gives { replied done_answer result defaults.new premiums.new
-            ≡ open_call (brought_in sheet numbers.now) register.now self
+            ≡ open_call brought.now register.now self
             (rows_of defaults.old premiums.old) }
-        ensures promised { Promised (brought_in sheet numbers.now) register.now self
+        ensures promised { Promised brought.now register.now self
             (rows_of defaults.old premiums.old)
-            (opening sheet.pool.number own_rows) (replied done_answer result defaults.new premiums.new) }
+            (opening brought.now.number own_rows) (replied done_answer result defaults.new premiums.new) }
     {
-        let answer = self.start(sheet, numbers, register, defaults, premiums);
+        let answer = self.start(brought, register, defaults, premiums);
         Reply { answer, walk: self }
     }
 
     // Takes both rows count steps back.
     pub fn back(
         mut self,
-        sheet: Sheet,
-        numbers: &[u64],
+        brought: &Brought<'_>,
         register: &[u8],
         defaults: &mut [u64],
         premiums: &mut [u64],
         count: usize,
     ) -> Reply<usize>
         ensures gives { replied position_answer result defaults.new premiums.new
-            ≡ back_call (brought_in sheet numbers.now) register.now self
+            ≡ back_call brought.now register.now self
             (rows_of defaults.old premiums.old) count }
-        ensures promised { Promised (brought_in sheet numbers.now) register.now self
+        ensures promised { Promised brought.now register.now self
             (rows_of defaults.old premiums.old)
-            (back sheet.pool.number own_rows count) (replied position_answer result defaults.new premiums.new) }
+            (back brought.now.number own_rows count) (replied position_answer result defaults.new premiums.new) }
     {
-        let answer = self.step_back(sheet, numbers, register, defaults, premiums, count);
+        let answer = self.step_back(brought, register, defaults, premiums, count);
         Reply { answer, walk: self }
     }
 
     // D, A and W of a tranche at a count.
     pub fn value(
         self,
-        sheet: Sheet,
-        numbers: &[u64],
+        brought: &Brought<'_>,
         register: &[u8],
         defaults: &[u64],
         premiums: &[u64],
@@ -101,14 +97,14 @@ impl Walk {
         count: usize,
     ) -> Reply<Worth>
         ensures gives { replied worth_answer result defaults.now premiums.now
-            ≡ value_call (brought_in sheet numbers.now) register.now self
+            ≡ value_call brought.now register.now self
             (rows_of defaults.now premiums.now) tranche count }
-        ensures promised { Promised (brought_in sheet numbers.now) register.now self
+        ensures promised { Promised brought.now register.now self
             (rows_of defaults.now premiums.now)
-            (value sheet.pool.number own_rows tranche count) (replied worth_answer result defaults.now premiums.now) }
+            (value brought.now.number own_rows tranche count) (replied worth_answer result defaults.now premiums.now) }
     {
         Reply {
-            answer: self.worth(sheet, numbers, register, defaults, premiums, tranche, count),
+            answer: self.worth(brought, register, defaults, premiums, tranche, count),
             walk: self,
         }
     }
@@ -116,8 +112,7 @@ impl Walk {
     // The ratio of a tranche's jump to the index's at a count, in millionths.
     pub fn hedge_ratio(
         self,
-        sheet: Sheet,
-        numbers: &[u64],
+        brought: &Brought<'_>,
         register: &[u8],
         defaults: &[u64],
         premiums: &[u64],
@@ -125,14 +120,14 @@ impl Walk {
         count: usize,
     ) -> Reply<i64>
         ensures gives { replied ratio_answer result defaults.now premiums.now
-            ≡ ratio_call (brought_in sheet numbers.now) register.now self
+            ≡ ratio_call brought.now register.now self
             (rows_of defaults.now premiums.now) tranche count }
-        ensures rule { RatioRule (brought_in sheet numbers.now) register.now self
+        ensures rule { RatioRule brought.now register.now self
             (rows_of defaults.now premiums.now) tranche count
             (walk_result (replied ratio_answer result defaults.now premiums.now)) }
     {
         Reply {
-            answer: self.ratio(sheet, numbers, register, defaults, premiums, tranche, count),
+            answer: self.ratio(brought, register, defaults, premiums, tranche, count),
             walk: self,
         }
     }
@@ -140,22 +135,20 @@ impl Walk {
     // Checks 1 to 12 of a call on this walk.
     fn admitted(
         self,
-        sheet: Sheet,
-        numbers: &[u64],
+        brought: &Brought<'_>,
         register: &[u8],
         defaults: &[u64],
         premiums: &[u64],
     ) -> Result<(), Refusal>
         ensures { result
-            ≡ first (twelve_tests (brought_in sheet numbers.now) register.now self
+            ≡ first (twelve_tests brought.now register.now self
             (rows_of defaults.now premiums.now) []) }
     {
         admission::to_twelve(
             self.open,
             self.number,
             self.position,
-            sheet,
-            numbers,
+            brought,
             register,
             defaults,
             premiums,
@@ -165,46 +158,44 @@ impl Walk {
     // What open does to this walk.
     fn start(
         &mut self,
-        sheet: Sheet,
-        numbers: &[u64],
+        brought: &Brought<'_>,
         register: &[u8],
         defaults: &mut [u64],
         premiums: &mut [u64],
     ) -> Result<(), Refusal>
         ensures { left done_answer result self.new defaults.new premiums.new
-            ≡ open_call (brought_in sheet numbers.now) register.now self.old
+            ≡ open_call brought.now register.now self.old
             (rows_of defaults.old premiums.old) }
     {
-        let lent = admission::rows_differ(sheet.pool, register, defaults, premiums);
-        admission::to_ten(sheet, numbers, register, lent)?;
+        let lent = admission::rows_differ(brought.sheet.pool, register, defaults, premiums);
+        admission::to_ten(brought, register, lent)?;
         figures::clear(defaults);
         figures::clear(premiums);
         self.open = true;
-        self.number = sheet.pool.number;
-        self.position = sheet.pool.steps;
+        self.number = brought.number();
+        self.position = brought.steps();
         Ok(())
     }
 
     // What back does to this walk.
     fn step_back(
         &mut self,
-        sheet: Sheet,
-        numbers: &[u64],
+        brought: &Brought<'_>,
         register: &[u8],
         defaults: &mut [u64],
         premiums: &mut [u64],
         count: usize,
     ) -> Result<usize, Refusal>
         ensures { left position_answer result self.new defaults.new premiums.new
-            ≡ back_call (brought_in sheet numbers.now) register.now self.old
+            ≡ back_call brought.now register.now self.old
             (rows_of defaults.old premiums.old) count }
     {
-        self.admitted(sheet, numbers, register, defaults, premiums)?;
+        self.admitted(brought, register, defaults, premiums)?;
         let position = self.position;
         if position < count {
             return Err(Refusal::OutOfSteps);
         }
-        rollback::walk_back(sheet, numbers, defaults, premiums, position, count);
+        rollback::walk_back(brought, defaults, premiums, position, count);
         self.position = position - count;
         Ok(position - count)
     }
@@ -212,8 +203,7 @@ impl Walk {
     // What value answers.
     fn worth(
         self,
-        sheet: Sheet,
-        numbers: &[u64],
+        brought: &Brought<'_>,
         register: &[u8],
         defaults: &[u64],
         premiums: &[u64],
@@ -221,21 +211,22 @@ impl Walk {
         count: usize,
     ) -> Result<Worth, Refusal>
         ensures { left worth_answer result self defaults.now premiums.now
-            ≡ value_call (brought_in sheet numbers.now) register.now self
+            ≡ value_call brought.now register.now self
             (rows_of defaults.now premiums.now) tranche count }
     {
-        self.admitted(sheet, numbers, register, defaults, premiums)?;
-        if sheet.pool.tranches < tranche || sheet.pool.names < count {
+        self.admitted(brought, register, defaults, premiums)?;
+        let last = brought.tranches();
+        let names = brought.names();
+        if last < tranche || names < count {
             return Err(Refusal::OffTree);
         }
-        Ok(replies::worth_at(sheet, numbers, defaults, premiums, tranche, count))
+        Ok(replies::worth_at(brought, defaults, premiums, tranche, count))
     }
 
     // What hedge ratio answers.
     fn ratio(
         self,
-        sheet: Sheet,
-        numbers: &[u64],
+        brought: &Brought<'_>,
         register: &[u8],
         defaults: &[u64],
         premiums: &[u64],
@@ -243,34 +234,34 @@ impl Walk {
         count: usize,
     ) -> Result<i64, Refusal>
         ensures { left ratio_answer result self defaults.now premiums.now
-            ≡ ratio_call (brought_in sheet numbers.now) register.now self
+            ≡ ratio_call brought.now register.now self
             (rows_of defaults.now premiums.now) tranche count }
     {
-        self.admitted(sheet, numbers, register, defaults, premiums)?;
-        if sheet.pool.tranches < tranche || sheet.pool.names <= count {
+        self.admitted(brought, register, defaults, premiums)?;
+        let last = brought.tranches();
+        let names = brought.names();
+        if last < tranche || names <= count {
             return Err(Refusal::OffTree);
         }
-        let own = figures::jump_at(sheet, numbers, defaults, premiums, tranche, count);
-        let last = sheet.pool.tranches;
-        let index = figures::jump_at(sheet, numbers, defaults, premiums, last, count);
+        let own = figures::jump_at(brought, defaults, premiums, tranche, count);
+        let index = figures::jump_at(brought, defaults, premiums, last, count);
         replies::ratio_of(own, index)
     }
 }
 
 // What forward is refused for: 1 to 10, then 13. It may only read the row.
 pub fn judge_forward(
-    sheet: Sheet,
-    numbers: &[u64],
+    brought: &Brought<'_>,
     register: &[u8],
     row: &[u64],
     steps: usize,
 ) -> Result<(), Refusal>
     ensures { result
-        ≡ first (forward_tests (brought_in sheet numbers.now) register.now row.now steps) }
+        ≡ first (forward_tests brought.now register.now row.now steps) }
 {
-    let lent = admission::row_differs(sheet.pool, register, row);
-    admission::to_ten(sheet, numbers, register, lent)?;
-    if sheet.pool.steps < steps {
+    let lent = admission::row_differs(brought.sheet.pool, register, row);
+    admission::to_ten(brought, register, lent)?;
+    if brought.steps() < steps {
         return Err(Refusal::OutOfSteps);
     }
     Ok(())
@@ -278,20 +269,19 @@ pub fn judge_forward(
 
 // The distribution of the default count after so many steps, from no default.
 pub fn forward(
-    sheet: Sheet,
-    numbers: &[u64],
+    brought: &Brought<'_>,
     register: &[u8],
     row: &mut [u64],
     steps: usize,
 ) -> Result<(), Refusal>
     ensures gives { forward_outcome result row.new
-        ≡ forward_call (brought_in sheet numbers.now) register.now row.old steps }
-    ensures rule { ForwardRule (brought_in sheet numbers.now) register.now
+        ≡ forward_call brought.now register.now row.old steps }
+    ensures rule { ForwardRule brought.now register.now
         row.old steps (forward_result (forward_outcome result row.new)) }
 {
-    judge_forward(sheet, numbers, register, row, steps)?;
-    let starts = sheet::part(sheet.starts, numbers);
-    let hazards = sheet::part(sheet.hazards, numbers);
-    forward::distribute(sheet.pool.names, starts, hazards, row, steps);
+    judge_forward(brought, register, row, steps)?;
+    let starts = brought.starts();
+    let hazards = brought.hazards();
+    forward::distribute(brought.names(), starts, hazards, row, steps);
     Ok(())
 }

@@ -1,7 +1,6 @@
 -- `orders::call` meets its contract: each way out is a law of `OrderLaws`.
 use Rattle.std.proofs.Common.{ap, ◌∙◌}
 use Rattle.sheet.specs.Brought.{Brought}
-use Rattle.sheet.specs.Spans.{brought_in}
 use Rattle.rows.specs.Rows.{Rows, rows_of}
 use Rattle.walk.specs.OurEngine.{walk_result}
 use Rattle.orders.proofs.OrderLaws.{open_calls, back_calls, reads_call}
@@ -9,20 +8,20 @@ use Rattle.orders.proofs.call.Goals as goal
 
 pub returns-in-Open : goal.returns-in-Open
 returns-in-Open c =
-    let sheet : Brought = brought_in c.args.sheet c.args.numbers.now in
+    let brought : Brought = c.args.brought.now in
     let rooms : Rows = rows_of c.args.defaults.now c.args.premiums.now in
-    open_calls c.args.order sheet c.args.register.now c.args.walk rooms c.into.ensures
+    open_calls c.args.order brought c.args.register.now c.args.walk rooms c.of_open.ensures
     c.in-Open.is c.open-reply.ensures
 
 pub returns-in-Back : goal.returns-in-Back
 returns-in-Back c =
-    let sheet : Brought = brought_in c.args.sheet c.args.numbers.now in
+    let brought : Brought = c.args.brought.now in
     let rooms : Rows = rows_of c.args.defaults.now c.args.premiums.now in
-    back_calls c.args.order sheet c.args.register.now c.args.walk rooms c.into-in-Back.ensures
+    back_calls c.args.order brought c.args.register.now c.args.walk rooms c.of_back.ensures
     c.in-Back.is c.back-reply.ensures
 
 pub returns-in_default : goal.returns-in_default
 returns-in_default c =
-    let sheet : Brought = brought_in c.args.sheet c.args.numbers.now in
+    let brought : Brought = c.args.brought.now in
     let rooms : Rows = rows_of c.args.defaults.now c.args.premiums.now in
-    c.read.ensures ∙ ap walk_result (reads_call c.args.order sheet c.args.register.now c.args.walk rooms c.in_default.not-Open c.in_default.not-Back)
+    c.read.ensures ∙ ap walk_result (reads_call c.args.order brought c.args.register.now c.args.walk rooms c.in_default.not-Open c.in_default.not-Back)

@@ -1,117 +1,50 @@
 -- `render::put_answer` meets its contract.
-use Rattle.std.proofs.Common.{lit≤, rules, arith, ℕ, List, sym, subst, ◌≡◌}
-use Rattle.answers.specs.declared.OrderAnswer.{OrderAnswer}
-use Rattle.answers.specs.declared.OrderAnswer.TheVariants.{Refused, Done, Position, Worth, Ratio, Probability}
+use Rattle.std.proofs.Common.{rules, arith, ℕ, List, ap, sym, subst, ◌≡◌}
+use Rattle.std.specs.Prelude.{Result, Ok, Err}
+use Rattle.lines.specs.Text.{decimal}
+use Rattle.lines.proofs.Laws.{wrote_text}
+use Rattle.answers.specs.declared.OrderRefusal.{OrderRefusal}
+use Rattle.answers.specs.declared.Told.{Told}
 use Rattle.answers.specs.OrderAnswers.{answer_said}
 use Rattle.render.specs.Lines.{answer_text, fields, width}
-use Rattle.render.proofs.Puts.{Put, both, last, wider, put_byte, put_zero, put_wide, put_sign, byte_long, zero_long, signed_long, count_fits}
+use Rattle.render.proofs.Puts.{Put, put_short, both, last, wider, put_byte, put_zero, byte_long, zero_long}
 use Rattle.render.proofs.put_answer.Goals as goal
 
 -- the text of an answer was written, in the width that its contract names
-abbrev AnswerPut : List ℕ → ℕ → OrderAnswer → List ℕ → ℕ → Type 0
+abbrev AnswerPut : List ℕ → ℕ → Result Told OrderRefusal → List ℕ → ℕ → Type 0
 AnswerPut before at a after end = Put before at (answer_text (answer_said a)) after end (width (answer_said a))
 
-put_same : {before after : List ℕ} {at end : ℕ} {a v : OrderAnswer} → a ≡ v → AnswerPut before at v after end → AnswerPut before at a after end
-put_same {before} {after} {at} {end} e p = subst (λ (x : OrderAnswer). AnswerPut before at x after end) (sym e) p
+put_same : {before after : List ℕ} {at end : ℕ} {a v : Result Told OrderRefusal} → a ≡ v → AnswerPut before at v after end → AnswerPut before at a after end
+put_same {before} {after} {at} {end} e p = subst (λ (x : Result Told OrderRefusal). AnswerPut before at x after end) (sym e) p
 
-pub put_decimal-requires : goal.put_decimal-requires
-put_decimal-requires c = omega (arith, byte_long c.in-Refused.number (search rules))
-
-pub returns-in-Refused : goal.returns-in-Refused
-unfolding answer_text fields
-returns-in-Refused c =
-    let p : AnswerPut _ _ (Refused c.in-Refused.number) _ _ = last (put_byte c.in-Refused.number (search rules) c.put_decimal.ensures) in
-    let q = put_same c.in-Refused.is p in
-    record { writes = q.wrote; short = q.short }
-
-pub put_decimal-requires-in-Done : goal.put_decimal-requires-in-Done
-put_decimal-requires-in-Done c = omega (arith, zero_long)
-
-pub returns-in-Done : goal.returns-in-Done
-unfolding answer_text fields
-returns-in-Done c =
-    let p : AnswerPut _ _ Done _ _ = wider (lit≤ tt) (last (put_zero c.put_decimal-in-Done.ensures)) in
-    let q = put_same c.in-Done.is p in
-    record { writes = q.wrote; short = q.short }
+-- a refusal's byte is its number
+put_number : {before after : List ℕ} {at end n m : ℕ} → n ≡ m → Put before at (decimal n) after end 3 → Put before at (decimal m) after end 3
+put_number e p = record { wrote = wrote_text (ap decimal e) p.wrote; long = p.long; short = p.short }
 
 pub put_decimal-b-requires : goal.put_decimal-b-requires
 put_decimal-b-requires c = omega (arith, zero_long)
 
-pub put_count-requires : goal.put_count-requires
-put_count-requires c =
+pub put_told-requires : goal.put_told-requires
+put_told-requires c =
     let p = put_zero c.put_decimal-b.ensures in
-    count_fits _ _ _ (search rules) (omega (arith, p.short, p.long))
+    omega (arith, p.short, p.long)
 
-pub returns-in-Position : goal.returns-in-Position
-unfolding answer_text fields
-returns-in-Position c =
-    let i = c.in-Position.position in
-    let p : AnswerPut _ _ (Position i) _ _ = wider (lit≤ tt)
-    (both (put_zero c.put_decimal-b.ensures) (last (put_wide i (search rules) c.put_count.ensures))) in
-    let q = put_same c.in-Position.is p in
+pub put_decimal-requires : goal.put_decimal-requires
+put_decimal-requires c = omega (arith, byte_long c.from.result (search rules))
+
+pub returns-in-Ok : goal.returns-in-Ok
+unfolding answer_text
+returns-in-Ok c =
+    let told = c.in-Ok.told in
+    let p : AnswerPut _ _ (Ok told) _ _ =
+    wider (omega arith) (both (put_zero c.put_decimal-b.ensures) (put_short c.put_told.ensures.writes c.put_told.ensures.short)) in
+    let q = put_same c.in-Ok.is p in
     record { writes = q.wrote; short = q.short }
 
-pub put_decimal-b-requires-in-Worth : goal.put_decimal-b-requires-in-Worth
-put_decimal-b-requires-in-Worth c = omega (arith, zero_long)
-
-pub put_count-c-requires : goal.put_count-c-requires
-put_count-c-requires c =
-    let p = put_zero c.put_decimal-b-in-Worth.ensures in
-    count_fits _ _ _ (search rules) (omega (arith, p.short, p.long))
-
-pub put_count-e-requires : goal.put_count-e-requires
-put_count-e-requires c =
-    let p = both (put_zero c.put_decimal-b-in-Worth.ensures) (put_wide c.in-Worth.d (search rules) c.put_count-c.ensures) in
-    count_fits _ _ _ (search rules) (omega (arith, p.short, p.long))
-
-pub put_field-requires : goal.put_field-requires
-put_field-requires c =
-    let p = both (put_zero c.put_decimal-b-in-Worth.ensures)
-    (both (put_wide c.in-Worth.d (search rules) c.put_count-c.ensures) (put_wide c.in-Worth.a (search rules) c.put_count-e.ensures)) in
-    omega (arith, p.short, p.long, signed_long c.in-Worth.w (search rules))
-
-pub returns-in-Worth : goal.returns-in-Worth
+pub returns-in-Err : goal.returns-in-Err
 unfolding answer_text fields
-returns-in-Worth c =
-    let t = c.in-Worth in
-    let p : AnswerPut _ _ (Worth t.d t.a t.w) _ _ = wider (lit≤ tt)
-    (both (put_zero c.put_decimal-b-in-Worth.ensures)
-    (both (put_wide t.d (search rules) c.put_count-c.ensures)
-    (both (put_wide t.a (search rules) c.put_count-e.ensures)
-    (last (put_sign t.w (search rules) c.put_field.ensures))))) in
-    let q = put_same t.is p in
-    record { writes = q.wrote; short = q.short }
-
-pub put_decimal-b-requires-in-Ratio : goal.put_decimal-b-requires-in-Ratio
-put_decimal-b-requires-in-Ratio c = omega (arith, zero_long)
-
-pub put_field-requires-in-Ratio : goal.put_field-requires-in-Ratio
-put_field-requires-in-Ratio c =
-    let p = put_zero c.put_decimal-b-in-Ratio.ensures in
-    omega (arith, p.short, p.long, signed_long c.in-Ratio.ratio (search rules))
-
-pub returns-in-Ratio : goal.returns-in-Ratio
-unfolding answer_text fields
-returns-in-Ratio c =
-    let z = c.in-Ratio.ratio in
-    let p : AnswerPut _ _ (Ratio z) _ _ = wider (lit≤ tt)
-    (both (put_zero c.put_decimal-b-in-Ratio.ensures) (last (put_sign z (search rules) c.put_field-in-Ratio.ensures))) in
-    let q = put_same c.in-Ratio.is p in
-    record { writes = q.wrote; short = q.short }
-
-pub put_decimal-b-requires-in-Probability : goal.put_decimal-b-requires-in-Probability
-put_decimal-b-requires-in-Probability c = omega (arith, zero_long)
-
-pub put_count-requires-in-Probability : goal.put_count-requires-in-Probability
-put_count-requires-in-Probability c =
-    let p = put_zero c.put_decimal-b-in-Probability.ensures in
-    count_fits _ _ _ (search rules) (omega (arith, p.short, p.long))
-
-pub returns-in-Probability : goal.returns-in-Probability
-unfolding answer_text fields
-returns-in-Probability c =
-    let n = c.in-Probability.q in
-    let p : AnswerPut _ _ (Probability n) _ _ = wider (lit≤ tt)
-    (both (put_zero c.put_decimal-b-in-Probability.ensures) (last (put_wide n (search rules) c.put_count-in-Probability.ensures))) in
-    let q = put_same c.in-Probability.is p in
+returns-in-Err c =
+    let p : AnswerPut _ _ (Err c.in-Err.refusal) _ _ =
+    last (put_number c.from.ensures (put_byte c.from.result (search rules) c.put_decimal.ensures)) in
+    let q = put_same c.in-Err.is p in
     record { writes = q.wrote; short = q.short }

@@ -1,66 +1,45 @@
--- `rooms::forward` meets its contract. A count above the names is told of a row that is only read. An accepted forward leaves a row of n + 1
-use Rattle.std.proofs.Common.{◌+◌, ◌≤◌, refl, ◌≡◌, ap, ◌∙◌, true≢false, [], arith, length, take, Ok, Err}
-use lib.Seq.{length_front}
+-- `rooms::forward` meets its contract. A count above the names is told of a row that is only read.
+use Rattle.std.proofs.Common.{refl, ap, ◌∙◌, true≢false, Ok, Err}
+use Rattle.std.proofs.lemmas.Result.{err_from_is_err_and}
 use Rattle.sheet.specs.Brought.{Brought}
-use Rattle.sheet.specs.Spans.{brought_in}
 use Rattle.walk.proofs.Judging.{refusal_some}
-use Rattle.machine.specs.Rooms.{count_said, off_tree_said}
-use Rattle.machine.proofs.LentRooms.{part_long, distribution_left, distribution_off, names_few, said_count}
+use Rattle.answers.specs.OrderAnswers.{answer_said}
+use Rattle.machine.specs.Rooms.{count_said}
+use Rattle.machine.proofs.LentRooms.{off_tree_said, distribution_left, distribution_off, said_count}
 use Rattle.rooms.proofs.forward.Goals as goal
 
-pub slice_bounds-judge_forward-end-then-pool-count : goal.slice_bounds-judge_forward-end-then-pool-count
-slice_bounds-judge_forward-end-then-pool-count c =
-    let part : c.forward_size-size.result ≡ length (take c.forward_size-size.result c.args.row.now) = part_long (c.args.sheet.pool.names + 1) 126 _ c.args.row.now c.requires c.forward_size-size.ensures in
-    part
+pub returns-in_err-judge_forward : goal.returns-in_err-judge_forward
+unfolding off_tree_said
+returns-in_err-judge_forward c =
+    let p = err_from_is_err_and c.from_residual.result c.from_residual.ensures.1 in
+    let brought : Brought = c.args.brought.now in
+    distribution_off brought c.args.register.now c.args.row.now c.args.steps c.args.count _ (rw (← c.names-names.ensures) c.forward_size-size.ensures) c.requires
+    (rw (← c.names-names.ensures) c.if-names-count.true)
+    (ap answer_said (p.1 ∙ ap Err p.2) ∙ ap off_tree_said c.in_err-judge_forward.ensures)
 
-pub returns-then-pool-count : goal.returns-then-pool-count
-returns-then-pool-count c =
-    let sheet : Brought = brought_in c.args.sheet c.args.numbers.now in
-    distribution_off sheet c.args.register.now c.args.row.now c.args.steps c.args.count _ c.forward_size-size.ensures c.requires
-    c.if-pool-count.true
-    (c.off_tree.ensures ∙ ap off_tree_said c.judge_forward-found.ensures)
+pub returns-then-names-count : goal.returns-then-names-count
+unfolding off_tree_said
+returns-then-names-count c =
+    let brought : Brought = c.args.brought.now in
+    distribution_off brought c.args.register.now c.args.row.now c.args.steps c.args.count _ (rw (← c.names-names.ensures) c.forward_size-size.ensures) c.requires
+    (rw (← c.names-names.ensures) c.if-names-count.true)
+    (ap answer_said (ap Err c.into.ensures) ∙ ap off_tree_said c.in_ok-judge_forward.ensures)
 
-pub slice_bounds-forward-end-2 : goal.slice_bounds-forward-end-2
-slice_bounds-forward-end-2 c =
-    let part : c.forward_size-size.result ≡ length (take c.forward_size-size.result c.args.row.now) = part_long (c.args.sheet.pool.names + 1) 126 _ c.args.row.now c.requires c.forward_size-size.ensures in
-    part
-
-pub offset_bounds-row-count : goal.offset_bounds-row-count
-offset_bounds-row-count c =
-    let sheet : Brought = brought_in c.args.sheet c.args.numbers.now in
-    let few : c.args.count ≤ 125 = let n : c.args.sheet.pool.names ≤ 125 =
-    names_few sheet c.args.register.now c.args.row.now _ _ c.args.steps c.args.count _ c.forward_size-size.ensures c.requires
-    c.in-Ok.ensures.gives refl c.forward.auto.row c.in-Ok.ensures.rule in
-    omega (arith, n, c.if-pool-count.false) in
-    omega (arith, few)
-
-pub bounds-row-count : goal.bounds-row-count
-bounds-row-count c =
-    let sheet : Brought = brought_in c.args.sheet c.args.numbers.now in
-    let few : c.args.count ≤ 125 = let n : c.args.sheet.pool.names ≤ 125 =
-    names_few sheet c.args.register.now c.args.row.now _ _ c.args.steps c.args.count _ c.forward_size-size.ensures c.requires
-    c.in-Ok.ensures.gives refl c.forward.auto.row c.in-Ok.ensures.rule in
-    omega (arith, n, c.if-pool-count.false) in
-    omega (
-      arith,
-      few,
-      c.requires,
-      length_front c.args.row.now c.forward.new.row c.forward_size-size.result c.forward.auto.row,
-    )
-
-pub returns-in-Ok : goal.returns-in-Ok
-returns-in-Ok c =
-    let sheet : Brought = brought_in c.args.sheet c.args.numbers.now in
-    distribution_left sheet c.args.register.now c.args.row.now _ (Ok tt) c.args.steps c.args.count _ c.forward_size-size.ensures c.requires
-    c.in-Ok.ensures.gives
-    (said_count _ _ _ _ refl c.if-pool-count.false)
-    (λ refused. absurd (true≢false refused))
-
-pub returns-in-Err : goal.returns-in-Err
+pub returns-in_err-forward : goal.returns-in_err-forward
 unfolding count_said
-returns-in-Err c =
-    let sheet : Brought = brought_in c.args.sheet c.args.numbers.now in
-    distribution_left sheet c.args.register.now c.args.row.now _ (Err c.in-Err.refusal) c.args.steps c.args.count _ c.forward_size-size.ensures c.requires
-    c.in-Err.ensures.gives
-    (λ j. record { number = c.into.ensures j; values = [] })
-    (λ refused. c.in-Err.ensures.rule.leaves (refusal_some c.in-Err.refusal))
+returns-in_err-forward c =
+    let p = err_from_is_err_and c.from_residual-in_err-forward.result c.from_residual-in_err-forward.ensures.1 in
+    let brought : Brought = c.args.brought.now in
+    let refusal = c.in_err-forward.field-0.0 in
+    distribution_left brought c.args.register.now c.args.row.now _ (Err refusal) c.args.steps c.args.count _ (rw (← c.names-names.ensures) c.forward_size-size.ensures) c.requires
+    c.in_err-forward.ensures.gives
+    (ap answer_said (p.1 ∙ ap Err p.2))
+    (λ refused. c.in_err-forward.ensures.rule.leaves (refusal_some refusal))
+
+pub returns : goal.returns
+returns c =
+    let brought : Brought = c.args.brought.now in
+    distribution_left brought c.args.register.now c.args.row.now _ (Ok tt) c.args.steps c.args.count _ (rw (← c.names-names.ensures) c.forward_size-size.ensures) c.requires
+    c.in_ok-forward.ensures.gives
+    (said_count _ _ _ _ refl (rw (← c.names-names.ensures) c.if-names-count.false))
+    (λ refused. absurd (true≢false refused))

@@ -1,6 +1,5 @@
 -- `rooms::open` meets its contract.
 use Rattle.sheet.specs.Brought.{Brought}
-use Rattle.sheet.specs.Spans.{brought_in}
 use Rattle.rows.specs.Rows.{Rows, row_length}
 use Rattle.figures.specs.Answer.{done_answer}
 use Rattle.walk.specs.Calls.{open_call}
@@ -10,18 +9,18 @@ use Rattle.rooms.proofs.open.Goals as goal
 
 pub slice_bounds-open-end-2 : goal.slice_bounds-open-end-2
 slice_bounds-open-end-2 c =
-    let sheet : Brought = brought_in c.args.sheet c.args.numbers.now in
-    part_long (row_length sheet.sheet) 1134 _ c.args.defaults.now c.requires.0 c.row_size-size.ensures
+    let brought : Brought = c.args.brought.now in
+    part_long (row_length brought.sheet) 1134 _ c.args.defaults.now c.requires.0 c.row_size-size.ensures
 
 pub slice_bounds-open-end-4 : goal.slice_bounds-open-end-4
 slice_bounds-open-end-4 c =
-    let sheet : Brought = brought_in c.args.sheet c.args.numbers.now in
-    part_long (row_length sheet.sheet) 1134 _ c.args.premiums.now c.requires.1 c.row_size-size.ensures
+    let brought : Brought = c.args.brought.now in
+    part_long (row_length brought.sheet) 1134 _ c.args.premiums.now c.requires.1 c.row_size-size.ensures
 
 pub returns : goal.returns
 unfolding open_in_rooms
 returns c =
-    let sheet : Brought = brought_in c.args.sheet c.args.numbers.now in
-    rooms_left sheet c.args.defaults.now c.args.premiums.now _ c.row_size-size.ensures c.requires.0 c.requires.1
-    (λ (l : Rows). open_call sheet c.args.register.now c.args.walk l)
+    let brought : Brought = c.args.brought.now in
+    rooms_left brought c.args.defaults.now c.args.premiums.now _ c.row_size-size.ensures c.requires.0 c.requires.1
+    (λ (l : Rows). open_call brought c.args.register.now c.args.walk l)
     done_answer c.«open».ensures.gives

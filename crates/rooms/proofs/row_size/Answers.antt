@@ -3,13 +3,13 @@ use Rattle.std.proofs.Common.{arith}
 use Rattle.machine.proofs.LentRooms.{product_left, product_right, product_most}
 use Rattle.rooms.proofs.row_size.Goals as goal
 
-pub returns-then-pool-ge-ROW_MOST : goal.returns-then-pool-ge-ROW_MOST
-returns-then-pool-ge-ROW_MOST c = let pool = c.args.pool in omega (arith, product_left pool.tranches pool.names (omega arith))
+pub returns-then-tranches-ge-ROW_MOST : goal.returns-then-tranches-ge-ROW_MOST
+returns-then-tranches-ge-ROW_MOST c =
+    rw (← c.tranches-tranches.ensures, ← c.names-names.ensures) (omega (arith, product_left c.tranches-tranches.result c.names-names.result (omega arith)))
 
-pub returns-then-pool-ge-ROW_MOST-2 : goal.returns-then-pool-ge-ROW_MOST-2
-returns-then-pool-ge-ROW_MOST-2 c = let pool = c.args.pool in omega (arith, product_right pool.tranches pool.names (omega arith))
+pub returns-then-names-ge-ROW_MOST : goal.returns-then-names-ge-ROW_MOST
+returns-then-names-ge-ROW_MOST c =
+    rw (← c.tranches-tranches.ensures, ← c.names-names.ensures) (omega (arith, product_right c.tranches-tranches.result c.names-names.result (omega arith)))
 
 pub overflow_mul-size : goal.overflow_mul-size
-overflow_mul-size c =
-    let pool = c.args.pool in
-    omega (arith, product_most pool.tranches pool.names (omega arith) (omega arith))
+overflow_mul-size c = omega (arith, product_most c.tranches-tranches.result c.names-names.result (omega arith) (omega arith))

@@ -1,9 +1,8 @@
 -- By what it is refused for; the row is then the distribution.
-use Rattle.std.proofs.Common.{◌≡◌, sym, ◌∙◌, List, ℕ, Ok}
+use Rattle.std.proofs.Common.{◌≡◌, sym, ◌∙◌, subst, List, ℕ, Ok}
 use Rattle.std.proofs.lemmas.Result.{err_from_is_err_and}
 use Rattle.forward.proofs.Alike.{hazards_enough}
 use Rattle.sheet.specs.Brought.{Brought}
-use Rattle.sheet.specs.Spans.{brought_in}
 use Rattle.sheet.specs.Limits.{Limits}
 use Rattle.forward.specs.Steps.{HazardsFit}
 use Rattle.refusals.specs.Tests.{first}
@@ -31,21 +30,22 @@ hazards-fit x m =
 
 pub returns-in_err-judge_forward : goal.returns-in_err-judge_forward
 returns-in_err-judge_forward c =
-    let sheet : Brought = brought_in c.args.sheet c.args.numbers.now in
+    let brought : Brought = c.args.brought.now in
     let p = err_from_is_err_and c.from_residual.result c.from_residual.ensures.1 in
-    let both = gives _ _ _ _ (forward_not sheet c.args.register.now c.args.row.now c.args.steps (sym c.in_err-judge_forward.ensures)) in
+    let both = gives _ _ _ _ (forward_not brought c.args.register.now c.args.row.now c.args.steps (sym c.in_err-judge_forward.ensures)) in
     rw (p.1, p.2) (record { gives = both.0; rule = both.1 })
 
 pub distribute-requires : goal.distribute-requires
-distribute-requires c = let sheet : Brought = brought_in c.args.sheet c.args.numbers.now in
-    let fine : first (forward_tests sheet c.args.register.now c.args.row.now c.args.steps) ≡ Ok tt = sym c.in_ok-judge_forward.ensures in
-    let o = forwarding sheet c.args.register.now c.args.row.now c.args.steps fine in
-    record { row_len = o.lent.row; hazards_fit = rw (c.part-starts.ensures, c.part-hazards.ensures) (hazards-fit sheet o.limits) }
+distribute-requires c = let brought : Brought = c.args.brought.now in
+    let fine : first (forward_tests brought c.args.register.now c.args.row.now c.args.steps) ≡ Ok tt = sym c.in_ok-judge_forward.ensures in
+    let o = forwarding brought c.args.register.now c.args.row.now c.args.steps fine in
+    rw (c.names.ensures, c.starts-starts.ensures)
+    (record { row_len = o.lent.row; hazards_fit = subst (HazardsFit brought.sheet.names brought.sheet.starts) (sym c.hazards-hazards.ensures) (hazards-fit brought o.limits) })
 
 pub returns : goal.returns
-returns c = let sheet : Brought = brought_in c.args.sheet c.args.numbers.now in
-    let fine : first (forward_tests sheet c.args.register.now c.args.row.now c.args.steps) ≡ Ok tt = sym c.in_ok-judge_forward.ensures in
+returns c = let brought : Brought = c.args.brought.now in
+    let fine : first (forward_tests brought c.args.register.now c.args.row.now c.args.steps) ≡ Ok tt = sym c.in_ok-judge_forward.ensures in
     let both = gives _ _ _ _
-    (forward_done sheet c.args.register.now c.args.row.now c.args.steps fine _
-    (c.distribute.ensures ∙ hazards_enough sheet.sheet _ _ c.part-starts.ensures c.part-hazards.ensures c.args.steps)) in
+    (forward_done brought c.args.register.now c.args.row.now c.args.steps fine _
+    ((rw c.names.ensures at c.distribute.ensures) ∙ hazards_enough brought.sheet _ _ c.starts-starts.ensures c.hazards-hazards.ensures c.args.steps)) in
     record { gives = both.0; rule = both.1 }
