@@ -38,7 +38,7 @@ const CALLS: [(&str, &str); 2] = [
 const JUDGE: &str = "issuing/src/lib.rt: judge";
 
 /// The others that may write a register, and the calls that they hand it to.
-const HANDS_ON: [(&str, &[&str]); 10] = [
+const HANDS_ON: [(&str, &[&str]); 11] = [
     (
         "export/src/lib.rt: lavroudem_issue",
         &["issuing::issue(register)"],
@@ -62,7 +62,8 @@ const HANDS_ON: [(&str, &[&str]); 10] = [
         ],
     ),
     ("execution/src/lib.rt: obey", &["orders::act(register)"]),
-    ("execution/src/lib.rt: execute", &["obey(register)"]),
+    ("execution/src/lib.rt: perform", &["obey(register)"]),
+    ("execution/src/lib.rt: execute", &["perform(register)"]),
     (
         "interpreter/src/lib.rt: interpret",
         &["execution::execute(register)"],
@@ -188,10 +189,25 @@ fn parameters(words: &[String]) -> Vec<(String, String)> {
         .collect()
 }
 
+/// Where the parameters of a function open, whose name stands at a place:
+/// behind its type parameters, which may have brackets of their own.
+fn opens(words: &[String], name: usize) -> usize {
+    let mut depth = 0;
+    for at in name + 1..words.len() {
+        match words[at].as_str() {
+            "<" => depth += 1,
+            ">" if words[at - 1] != "-" => depth -= 1,
+            "(" if depth == 0 => return at,
+            _ => {}
+        }
+    }
+    panic!("a function has no parameters");
+}
+
 fn functions_in(file: &str, words: &[String]) -> Vec<Function> {
     let mut found = Vec::new();
     for at in (0..words.len()).filter(|&at| words[at] == "fn") {
-        let open = at + words[at..].iter().position(|word| word == "(").unwrap();
+        let open = opens(words, at + 1);
         let close = behind(words, open);
         let mut start = close;
         // a contract's clauses have braces too
@@ -725,4 +741,14 @@ fn other_functions_hand_the_register_on() {
         assert_eq!(owner.handed(), [OWNS.1], "{}", owner.place);
     }
     assert_eq!(owners.len(), 1);
+}
+
+#[test]
+fn a_generic_function_is_read_by_its_own_parameters() {
+    let text = "fn lend<F: Fn(usize, &mut [u64]) -> bool>(work: F, register: &mut [u8]) -> bool {
+        work(1, register)
+    }";
+    let found = functions_in("any", &words(text));
+    assert_eq!(found.len(), 1);
+    assert!(found[0].may_write_register());
 }

@@ -1,8 +1,8 @@
 -- Laws of losses and outstanding nominal.
 use Rattle.std.proofs.Common.{ℕ, zero, suc, ◌+◌, ◌-◌, ◌/◌, ◌≤◌, ◌<◌, min, ◌≡◌, refl, Bool, true, false, cond, not, T, leb, leb→le, le_refl, le_of_lt}
-use Rattle.std.proofs.Common.{le_trans, mul-le-mul_left, mul-le-mul_right, le-div_iff_mul-le, div-mul-le_self, arith}
+use Rattle.std.proofs.Common.{◌∙◌, ap, le_trans, mul-le-mul_left, mul-le-mul_right, le-div_iff_mul-le, div-mul-le_self, arith}
 use lib.Dec.{nleb→lt}
-use native.Mathlib.Nat.{le_step, div-le_of_le-mul}
+use native.Mathlib.Nat.{le_step, div-le_of_le-mul, zero-mul, zero-div}
 use Rattle.cash.specs.Units.{B}
 use Rattle.cash.specs.Sums.{sum_to, Rising}
 use Rattle.cash.specs.Losses.{pool_loss, tranche_loss, clamped_loss, CasesClamp, premium_payment, elapsed_payment}
@@ -22,6 +22,10 @@ pool_loss_rises names recovery k p = share_rises names _ _ p (omega arith)
 pub pool_loss_most : (names recovery k : ℕ) → k ≤ names → pool_loss names recovery k ≤ B - recovery
 unfolding pool_loss
 pool_loss_most names recovery k l = div-le_of_le-mul names (mul-le-mul_right (B - recovery) l)
+
+pub pool_loss_none : (names recovery : ℕ) → pool_loss names recovery 0 ≡ 0
+unfolding pool_loss
+pool_loss_none names recovery = ap (λ y. y / names) (zero-mul (B - recovery)) ∙ zero-div names
 
 -- ---- a tranche
 
@@ -65,6 +69,10 @@ tranche_loss_rises lower upper x y h = omega (arith, cases_clamp lower upper x, 
 pub tranche_loss_most : (lower upper x : ℕ) → tranche_loss lower upper x ≤ upper - lower
 unfolding clamped_loss
 tranche_loss_most lower upper x = omega (arith, cases_clamp lower upper x)
+
+pub tranche_loss_none : (lower upper : ℕ) → tranche_loss lower upper 0 ≡ 0
+unfolding clamped_loss
+tranche_loss_none lower upper = omega (arith, cases_clamp lower upper 0)
 
 -- a tranche from 0 on that reaches as far as the loss loses all of it
 pub tranche_loss_whole : (upper x : ℕ) → x ≤ upper → tranche_loss 0 upper x ≡ x

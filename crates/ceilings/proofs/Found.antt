@@ -1,12 +1,12 @@
 -- Laws of a search for an entry over its ceiling.
-use Rattle.std.proofs.Common.{ℕ, zero, suc, ◌+◌, ◌-◌, ◌*◌, ◌/◌, ◌%◌, ◌≤◌, ◌<◌, ◌≡◌, refl, ap, sym, ◌∙◌, Bool, true, false, ◌||◌, List, arith}
+use Rattle.std.proofs.Common.{ℕ, zero, suc, ◌+◌, ◌-◌, ◌*◌, ◌/◌, ◌%◌, ◌≤◌, ◌<◌, ◌≡◌, refl, ap, sym, ◌∙◌, Bool, true, false, ◌||◌, List, [], arith}
 use Rattle.std.proofs.Common.{length, get_or, drop, ltb, lit≤, ltb-false, lt-ltb, le-ltb}
 use native.Mathlib.Decide.{ℕ_discrete}
 use lib.Arith.{digits_lt, digits_div, digits_mod}
 use Rattle.cash.specs.Units.{B}
 use Rattle.sheet.specs.Terms.{Terms, sum_of, terms_of, bare}
 use Rattle.sheet.specs.Limits.{TermsWithin}
-use Rattle.tree.specs.Sheet.{default_most, premium_most}
+use Rattle.tree.specs.Sheet.{pool_loss_of, loss_of, width_of, default_most, premium_most}
 use Rattle.tree.proofs.Sheets.{loss_most}
 use Rattle.rows.specs.Tables.{entry, any}
 use Rattle.rows.specs.Rows.{row_length, node_in, any_over, soiled}
@@ -101,6 +101,17 @@ module _ (pool : Pool) (attachments starts hazards discounts accruals elapsed : 
         ∙ any_cong r _ _ (λ j h. any_or w (λ k. ltb (default_most whole j k) (entry w d j k)) (λ k. ltb (premium_most whole i k) (entry w p j k)))
         ∙ any_or r (λ j. any w (λ k. ltb (default_most whole j k) (entry w d j k))) (λ j. any w (λ k. ltb (premium_most whole i k) (entry w p j k)))
         ∙ (λ t. soiled (x_is t) i d p)
+
+-- The lists that set no ceiling play no part, and the others may be parts of the sheet's numbers.
+module _ (pool : Pool) (attachments starts hazards discounts accruals elapsed a c : List ℕ) (a_is : a ≡ attachments) (c_is : c ≡ accruals) where
+  soiled_whole : (i : ℕ) (d p : List ℕ) →
+      soiled (terms_of pool attachments [] [] [] accruals []) i d p ≡ soiled (terms_of pool attachments starts hazards discounts accruals elapsed) i d p
+  unfolding soiled any_over node_in default_most width_of loss_of pool_loss_of premium_most
+  soiled_whole i d p = refl
+
+  pub soiled_part : (i : ℕ) (d p : List ℕ) →
+      soiled (terms_of pool a [] [] [] c []) i d p ≡ soiled (terms_of pool attachments starts hazards discounts accruals elapsed) i d p
+  soiled_part i d p = (λ t. soiled (terms_of pool (a_is t) [] [] [] (c_is t) []) i d p) ∙ soiled_whole i d p
 
 -- ---- rows that keep to their ceilings can be walked back
 

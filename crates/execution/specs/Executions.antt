@@ -8,6 +8,7 @@ use Rattle.entries.specs.Layouts.{empty_layout}
 use Rattle.machine.specs.Machine.{Machine, machine_in}
 use Rattle.render.specs.Lines.{deck_line}
 use Rattle.execution.specs.declared.Progress.{Progress}
+use Rattle.execution.specs.declared.Stopped.{Stopped}
 use Rattle.listings.specs.Effects.{Effect, stop, go_on}
 
 -- A run starts with an empty layout and a fresh walk, at the first byte, and has printed nothing.
@@ -33,6 +34,17 @@ pub record Ends (effect : Effect) (from : Progress) (before after : List ℕ) (s
   pub unwritten : after ≡ before
 
 -- The one or the other. Where the run goes on, `machine` tells what the code's figures and arrays then stand for.
-abbrev pub Execution : Effect → Progress → List ℕ → List ℕ → Result Progress Stop → (Progress → Machine) → Type 0
-Execution effect from before after r machine =
+abbrev pub Performance : Effect → Progress → List ℕ → List ℕ → Result Progress Stop → (Progress → Machine) → Type 0
+Performance effect from before after r machine =
     MatchResult r (λ to. GoesOn effect from before after to (machine to)) (λ s. Ends effect from before after s)
+
+-- The run has ended with a refusal, whose line was written behind what was printed.
+pub record Ended (effect : Effect) (from : Progress) (before after : List ℕ) (s : Stopped) : Type 0 where
+  pub effect_is : effect ≡ stop (deck_line (refusal_of s.stop) from.at)
+  pub wrote : Wrote before from.end (deck_line (refusal_of s.stop) from.at) after s.end
+  pub room : s.end ≤ from.end + 96
+
+-- An effect's text was written behind what was printed, be it that of a refusal or not.
+abbrev pub Execution : Effect → Progress → List ℕ → List ℕ → Result Progress Stopped → (Progress → Machine) → Type 0
+Execution effect from before after r machine =
+    MatchResult r (λ to. GoesOn effect from before after to (machine to)) (λ s. Ended effect from before after s)

@@ -7,7 +7,7 @@ ghost use Rattle.commands.specs.Commands.{command_at};
 ghost use Rattle.entries.specs.Layouts.{LayoutLimits};
 ghost use Rattle.machine.specs.Machine.{RoomLengths};
 ghost use Rattle.listings.specs.Effects.{entry_effect, order_effect, effect_of};
-ghost use Rattle.execution.specs.Executions.{start_progress, machine_at, GoesOn, Execution};
+ghost use Rattle.execution.specs.Executions.{start_progress, machine_at, GoesOn, Performance, Execution};
 
 use commands::{Command, Entry, Order, Stop};
 use entries::Layout;
@@ -19,6 +19,13 @@ pub struct Progress {
     pub layout: Layout,
     pub walk: Walk,
     pub at: usize,
+    pub end: usize,
+}
+
+// A run that a refusal has ended: which one, and the end of what is printed, its line included.
+#[derive(Clone, Copy)]
+pub struct Stopped {
+    pub stop: Stop,
     pub end: usize,
 }
 
@@ -40,7 +47,7 @@ fn enter(entry: Entry, from: Progress, numbers: &mut [u64]) -> Result<Progress, 
     requires layout_limits { LayoutLimits from.layout numbers.old }
     ensures limits { MatchResult result (λ to. LayoutLimits to.layout numbers.new) (λ _. LayoutLimits from.layout numbers.new) }
     ensures executes { (register defaults premiums row out : List ℕ) →
-        Execution (entry_effect entry from.at (machine_at from numbers.old register defaults premiums row))
+        Performance (entry_effect entry from.at (machine_at from numbers.old register defaults premiums row))
         from out out result (λ to. machine_at to numbers.new register defaults premiums row) }
 {
     if !entries::has_room(entry, from.layout) {
@@ -94,8 +101,8 @@ fn obey(
     }
 }
 
-// Executes the command that stands at the next offset: 18, 19 and 20 in that order, else the command.
-pub fn execute(
+// The command that stands at the next offset: 18, 19 and 20 in that order, else the command. A refusal's line is still to be written.
+fn perform(
     deck: &[u8],
     from: Progress,
     numbers: &mut [u64],
@@ -111,7 +118,7 @@ pub fn execute(
     requires end_in_bounds { from.end + 96 ≤ length out.old }
     ensures limits { MatchResult result (λ to. LayoutLimits to.layout numbers.new) (λ _. LayoutLimits from.layout numbers.new) }
     ensures lengths { RoomLengths defaults.new premiums.new row.new }
-    ensures executes { Execution
+    ensures executes { Performance
         (effect_of (command_at deck.now from.at) from.at
         (machine_at from numbers.old register.old defaults.old premiums.old row.old))
         from out.old out.new result
@@ -123,5 +130,38 @@ pub fn execute(
         Command::Act(order) => Ok(obey(
             order, from, numbers, register, defaults, premiums, row, out,
         )),
+    }
+}
+
+// Executes the command that stands at the next offset. A refusal ends the run, and its line is the last.
+pub fn execute(
+    deck: &[u8],
+    from: Progress,
+    numbers: &mut [u64],
+    register: &mut [u8],
+    defaults: &mut [u64],
+    premiums: &mut [u64],
+    row: &mut [u64],
+    out: &mut [u8],
+) -> Result<Progress, Stopped>
+    requires at_in_bounds { from.at < length deck.now }
+    requires layout_limits { LayoutLimits from.layout numbers.old }
+    requires room_lengths { RoomLengths defaults.old premiums.old row.old }
+    requires end_in_bounds { from.end + 96 ≤ length out.old }
+    ensures limits { MatchResult result (λ to. LayoutLimits to.layout numbers.new) (λ _. LayoutLimits from.layout numbers.new) }
+    ensures lengths { RoomLengths defaults.new premiums.new row.new }
+    ensures executes { Execution
+        (effect_of (command_at deck.now from.at) from.at
+        (machine_at from numbers.old register.old defaults.old premiums.old row.old))
+        from out.old out.new result
+        (λ to. machine_at to numbers.new register.new defaults.new premiums.new row.new) }
+    ensures stays { OnErr result (register.new ≡ register.old) }
+{
+    match perform(deck, from, numbers, register, defaults, premiums, row, out) {
+        Ok(to) => Ok(to),
+        Err(stop) => Err(Stopped {
+            stop,
+            end: render::put_deck(out, from.end, u8::from(stop), from.at),
+        }),
     }
 }

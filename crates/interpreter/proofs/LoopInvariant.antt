@@ -1,5 +1,5 @@
 -- The commands of a deck, one after the other, on plain values.
-use Rattle.std.proofs.Common.{ℕ, zero, suc, ◌+◌, ◌*◌, ◌≤◌, ◌<◌, ◌≡◌, sym, ap, ◌∙◌, subst, subst₂, false, List, [], ◌∷◌, ◌++◌, append_assoc}
+use Rattle.std.proofs.Common.{ℕ, zero, suc, ◌+◌, ◌*◌, ◌≤◌, ◌<◌, ◌≡◌, sym, ap, ◌∙◌, subst, false, List, [], ◌∷◌, ◌++◌, append_assoc}
 use Rattle.std.proofs.Common.{append-nil, arith, length, get_or, take, drop-cons}
 use Rattle.lines.specs.Text.{Wrote}
 use Rattle.lines.proofs.Laws.{wrote_both, wrote_text, wrote_none, wrote_long}
@@ -14,8 +14,8 @@ use Rattle.entries.proofs.Entering.{empty_limits}
 use Rattle.machine.specs.Machine.{Machine, machine_of}
 use Rattle.execution.specs.declared.Progress.{Progress}
 use Rattle.listings.specs.Effects.{effect_of}
-use Rattle.execution.specs.Executions.{start_progress, machine_at, GoesOn, Ends}
-use Rattle.commands.specs.declared.Stop.{Stop}
+use Rattle.execution.specs.declared.Stopped.{Stopped}
+use Rattle.execution.specs.Executions.{start_progress, machine_at, GoesOn, Ended}
 use Rattle.commands.specs.Kinds.{refusal_of}
 use Rattle.render.specs.Lines.{deck_line}
 use Rattle.listings.specs.ListingFrom.{listing_from}
@@ -106,22 +106,18 @@ module _ (all left deck before out after : List ℕ) (p : Progress) (m : Machine
     holds_on i = step_on i.commands i.enough i.text i.wrote i.rest i.kept i.room
 
   -- one that ends the run: its line comes last
-  module _ {s : Stop} (g : Ends (effect_of (command_at deck p.at) p.at m) p out after s) {number end : ℕ} {printed : List ℕ} (is : number ≡ refusal_of s)
-      (w : Wrote after p.end (deck_line number p.at) printed end) (short : end ≤ p.end + 30) where
-    line : Wrote out p.end (deck_line (refusal_of s) p.at) printed end
-    line =
-        subst₂ (λ (o : List ℕ) (k : ℕ). Wrote o p.end (deck_line k p.at) printed end) g.unwritten is w
-
+  module _ {s : Stopped} (g : Ended (effect_of (command_at deck p.at) p.at m) p out after s) where
     step_last : (n : ℕ) → length deck ≤ p.at + n → (text : List ℕ) → Wrote before 0 text out p.end → all ≡ text ++ listing_from n deck p.at m →
-        left ≡ register_from n deck p.at m → p.end ≤ 32 * p.at → Finished all left before printed end m.register
+        left ≡ register_from n deck p.at m → p.end ≤ 32 * p.at → Finished all left before after s.end m.register
     step_last zero en text wr rest kept room = absurd (omega arith)
     step_last (suc n) en text wr rest kept room = (
-      wrote_text (sym (rest ∙ ap (λ (l : List ℕ). text ++ l) (last deck p.at m n (deck_line (refusal_of s) p.at) h g.effect_is))) (wrote_both wr line),
-      omega arith,
-      sym (kept ∙ left_last deck p.at m n (deck_line (refusal_of s) p.at) h g.effect_is),
+      wrote_text (sym (rest ∙ ap (λ (l : List ℕ). text ++ l) (last deck p.at m n (deck_line (refusal_of s.stop) p.at) h g.effect_is)))
+          (wrote_both wr g.wrote),
+      omega (arith, g.room),
+      sym (kept ∙ left_last deck p.at m n (deck_line (refusal_of s.stop) p.at) h g.effect_is),
     )
 
-    pub finished_last : Invariant all left deck before out p m → Finished all left before printed end m.register
+    pub finished_last : Invariant all left deck before out p m → Finished all left before after s.end m.register
     finished_last i = step_last i.commands i.enough i.text i.wrote i.rest i.kept i.room
 
 pub finished_all : {all left deck before out : List ℕ} {p : Progress} {m : Machine} → Invariant all left deck before out p m → length deck ≤ p.at →

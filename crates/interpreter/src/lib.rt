@@ -40,9 +40,7 @@ pub fn interpret(
         );
         match executed {
             Ok(next) => progress = next,
-            Err(stop) => {
-                return render::put_deck(out, progress.end, u8::from(stop), progress.at);
-            }
+            Err(stopped) => return stopped.end,
         }
     }
     progress.end

@@ -1,10 +1,10 @@
 -- A list's tests by its elements are those by its places.
-use Rattle.std.proofs.Common.{ℕ, zero, suc, pred, ◌+◌, ◌≤◌, ◌≡◌, refl, sym, ap, ◌∙◌, Bool, true, false, not, ◌||◌, List, [], ◌∷◌, arith, le_refl}
+use Rattle.std.proofs.Common.{ℕ, zero, suc, pred, ◌+◌, ◌≤◌, ◌≡◌, refl, sym, ap, ◌∙◌, Bool, true, false, not, ◌||◌, List, [], ◌∷◌, ◌++◌, arith, le_refl}
 use Rattle.std.proofs.Common.{add-one, sub-one, ltb-true, ltb-false, le-leb, length, get_or, take, leb, ltb}
 use borrow.Author.Tests.{lt-leb}
 use lib.Seq.{take-length}
 use Rattle.std.specs.List.{fold, list_any, IsAllAdjacentAnswer}
-use Rattle.std.proofs.lemmas.List.Folds.{list_any_more}
+use Rattle.std.proofs.lemmas.List.Folds.{list_any_more, list_any-append}
 use Rattle.std.proofs.Math.Bool.{or_assoc, or-false}
 use Rattle.rows.specs.Tables.{any}
 use Rattle.rows.proofs.Search.{any_hit, any_missed}
@@ -23,8 +23,30 @@ module _ (test : ℕ → Bool) where
         ap (λ m. list_any test (take m l)) (sym (add-one n)) ∙ list_any_more test l n 0 (omega arith)
         ∙ ap (λ (b : Bool). b || test (get_or l n 0)) (any_taken n (omega arith))
 
+    any_by_place : any (length l) (λ i. test (get_or l i 0)) ≡ list_any test l
+    any_by_place = sym (any_taken (length l) (le_refl (length l))) ∙ ap (list_any test) (take-length l)
+
     pub any_folded : fold (λ b y. b || test y) false l ≡ any (length l) (λ i. test (get_or l i 0))
-    any_folded = any_listed l false ∙ ap (list_any test) (sym (take-length l)) ∙ any_taken (length l) (le_refl (length l))
+    any_folded = any_listed l false ∙ sym any_by_place
+
+  -- Where a block comes off the front, what is found in it ends the search, and else the rest is searched.
+  abbrev pub searched : List ℕ → Bool
+  searched l = any (length l) (λ i. test (get_or l i 0))
+
+  any_parted : (block rest : List ℕ) → searched (block ++ rest) ≡ (searched block || searched rest)
+  any_parted block rest =
+      any_by_place (block ++ rest) ∙ list_any-append test block rest
+      ∙ (λ j. sym (any_by_place block) j || sym (any_by_place rest) j)
+
+  pub block_hit : {l : List ℕ} (block rest : List ℕ) → l ≡ block ++ rest → searched block ≡ true → searched l ≡ true
+  block_hit block rest parts found = ap searched parts ∙ any_parted block rest ∙ ap (λ b. b || searched rest) found
+
+  pub block_missed : {l : List ℕ} (block rest : List ℕ) → l ≡ block ++ rest → searched block ≡ false → searched l ≡ searched rest
+  block_missed block rest parts none = ap searched parts ∙ any_parted block rest ∙ ap (λ b. b || searched rest) none
+
+  pub none_left : (l : List ℕ) → length l ≡ 0 → searched l ≡ false
+  unfolding any
+  none_left l none = ap (λ n. any n (λ i. test (get_or l i 0))) none
 
 -- The number after j is no higher than the one at j.
 abbrev pub falls : List ℕ → ℕ → Bool

@@ -11,6 +11,8 @@ use Rattle.walk.specs.declared.Reply.{Reply}
 use Rattle.rows.specs.Rows.{Rows, rows_of, row_length}
 use Rattle.walk.specs.Answers.{Said, said_of, accepted}
 use Rattle.walk.specs.Calls.{Outcome, ForwardOutcome, replied, forward_outcome, forward_tests, or_forward_outcome, forward_call}
+use Rattle.walk.specs.CallRules.{ForwardRule}
+use Rattle.walk.specs.OurEngine.{forward_result}
 use Rattle.walk.proofs.Judging.{refusal_some}
 use Rattle.machine.specs.Rooms.{lent_rows, left_in_rooms, left_in_row, forward_in_row, count_said, said_beside, count_in_row, distribution_in_row}
 
@@ -87,6 +89,12 @@ module _ (x : Brought) (register row row' : List ℕ) (a : Result ⊤ Refusal) (
       ap (said_beside said) (chosen (accepted said) (row' ++ drop k row) row (λ f. ap (λ (l : List ℕ). l ++ drop k row) (kept f) ∙ take-append-drop k row))
       ∙ ap (λ (s : Said). said_beside s (cond (accepted s) (row' ++ drop k row) row)) e
       ∙ ap (λ (o : ForwardOutcome). count_in_row x row o count) fills_in
+
+  -- an accepted forward leaves a row of n + 1, so there are at most 125 names
+  pub names_few : a ≡ Ok tt → length row' ≡ length (take k row) → ForwardRule x register (take k row) i (forward_result (forward_outcome a row')) → x.sheet.names ≤ 125
+  names_few e same f =
+      let yes : accepted (said_of (done_answer a)) ≡ true = ap (λ (b : Result ⊤ Refusal). accepted (said_of (done_answer b))) e in
+      omega (arith, (f.does yes).size, same, length-take-le k row (omega arith))
 
 -- what forward says
 pub said_off : (a : Answer) (row : List ℕ) (n k : ℕ) → a ≡ Done → n < k → record { number = 14; values = [] } ≡ count_said a row n k

@@ -1,10 +1,11 @@
 -- What reading and writing answer, case by case.
-use Rattle.std.proofs.Common.{Ok, Err, ℕ, ◌≤◌, ◌<◌, ◌≡◌, ap, ◌≢◌, ◌⊎◌, inl, inr, true, false, List, arith, eq-eqb, ne_eqb, lt-ltb, le-ltb, length}
+use Rattle.std.proofs.Common.{Result, Ok, Err, ℕ, ◌≤◌, ◌<◌, ◌≡◌, refl, ap, ◌≢◌, ◌⊎◌, inl, inr, true, false, List, arith, eq-eqb, ne_eqb, lt-ltb, le-ltb, length}
+use Rattle.std.specs.Prelude.{⊤}
 use Rattle.std.proofs.lemmas.Bool.{cases_lt}
 use native.Mathlib.Decide.{ℕ_discrete}
 use Rattle.images.specs.Images.{packed_value, digits_bad}
 use Rattle.packed.specs.declared.ImageRefusal.{ImageRefusal}
-use Rattle.packed.specs.Answers.{writing_number, read_answer, write_answer}
+use Rattle.packed.specs.Answers.{writing_number, read_answer, write_answer, left_by}
 
 -- ---- reading
 
@@ -41,3 +42,8 @@ module _ (l : List ℕ) (v : ℕ) where
       go (no h) d = absurd (omega (arith, e, ap writing_number (write_length h)))
       go (yes h) (inl o) = absurd (omega (arith, e, ap writing_number (write_limit h o)))
       go (yes h) (inr o) = (h, o)
+
+  -- An answer other than Ok leaves what was lent.
+  pub kept : (a : Result ⊤ ImageRefusal) → (a ≡ Ok tt → ⊥) → l ≡ left_by a l v
+  kept (Ok tt) t = absurd (t refl)
+  kept (Err refusal) t = refl

@@ -1,7 +1,7 @@
 -- Issue and withdraw, as specs/Register.antt computes them, keep document 01's rules, and nothing else does.
-use Rattle.std.proofs.Common.{cond, ◌≡◌, sym, ◌∙◌, ap, ◌≢◌, List, ℕ, eq-eqb, ne_eqb, length, get_or, set}
+use Rattle.std.proofs.Common.{cond, ◌≡◌, refl, sym, ◌∙◌, ap, subst, ◌≢◌, List, ℕ, eq-eqb, ne_eqb, length, get_or, set}
 use native.Mathlib.Decide.{ℕ_discrete}
-use Rattle.std.specs.declared.result.Result.TheVariants.{Err}
+use Rattle.std.specs.declared.result.Result.TheVariants.{Ok, Err}
 use Rattle.register.specs.declared.answers.Status.{Status}
 use Rattle.register.specs.declared.answers.WriteRefusal.{WriteRefusal}
 use Rattle.register.specs.Register.{status_in, WriteAnswer, number_of, Write, issue, withdraw, by_status, byte_of, answer_of, is_accepted, leaves_of}
@@ -54,6 +54,35 @@ rules withdraw register x =
       unissued = λ h. gives withdraw register x (of_unissued withdraw register x h);
       live = λ h. gives withdraw register x (of_live withdraw register x h);
     }
+
+-- ---- one law for issue and withdraw
+
+-- What is said of an answer and of the register that is left with it.
+abbrev pub Meets : Write → List ℕ → ℕ → WriteAnswer → List ℕ → Type 0
+Meets w register x a l = (a ≡ answer_of w register x) × ((l ≡ leaves_of w register x) × Rule w register x (number_of a) l)
+
+module _ (w : Write) (register : List ℕ) (x : ℕ) where
+  pub meets : {a : WriteAnswer} {l : List ℕ} → a ≡ answer_of w register x → l ≡ left w register x a → Meets w register x a l
+  meets {a} e k =
+      let leaves = k ∙ ap (left w register x) e in
+      let rule = subst (λ (b : WriteAnswer). Rule w register x (number_of b) (leaves_of w register x)) (sym e) (rules w register x) in
+      (e, (leaves, subst (Rule w register x (number_of a)) (sym leaves) rule))
+
+  -- An answer other than Ok leaves the register.
+  pub kept : (a : WriteAnswer) → (a ≡ Ok tt → ⊥) → register ≡ left w register x a
+  kept (Ok tt) t = absurd (t refl)
+  kept (Err WriteRefusal.Length) t = refl
+  kept (Err WriteRefusal.Withdrawn) t = refl
+  kept (Err WriteRefusal.Unissued) t = refl
+  kept (Err WriteRefusal.Live) t = refl
+
+  -- Every answer but 2 tells the length.
+  pub of_size : {a : WriteAnswer} → a ≡ answer_of w register x → number_of a ≢ 2 → length register ≡ 256
+  of_size e n = go (ℕ_discrete (length register) 256)
+    where
+      go : Dec (length register ≡ 256) → length register ≡ 256
+      go (yes h) = h
+      go (no h) = absurd (n (ap number_of (e ∙ of_length w register x h)))
 
 -- ---- nothing else keeps the rules
 

@@ -19,16 +19,6 @@ pub list_past : (s : Span) (numbers : List ℕ) → length numbers < s.at + s.le
 unfolding list_in
 list_past s numbers h = rw (lt-leb (s.at + s.length) (length numbers) h) refl
 
--- what stands from its start to its end, or nothing
-pub list_got : (s : Span) (numbers : List ℕ) (end : ℕ) (got : Option (Bor (List ℕ))) (empty r : Bor (List ℕ))
-    → IsGetRangeResult numbers s.at end got → end ≡ s.at + s.length → empty.now ≡ [] → r ≡ unwrap_or got empty
-    → r.now ≡ list_in s numbers
-list_got s numbers end None empty r g e z f =
-    ap (λ (y : Bor (List ℕ)). y.now) f ∙ z ∙ sym (list_past s numbers (elim g.0 [ inl p ↦ omega arith | inr p ↦ omega arith ]))
-list_got s numbers end (Some x) empty r g e z f =
-    ap (λ (y : Bor (List ℕ)). y.now) f ∙ g.0.2 ∙ ap (λ (k : ℕ). take (k - s.at) (drop s.at numbers)) e
-    ∙ part_whole numbers s.at s.length ∙ sym (list_within s numbers (omega (arith, g.0.1)))
-
 pub list_long : (s : Span) (numbers : List ℕ) → Within s numbers → length (list_in s numbers) ≡ s.length
 list_long s numbers h =
     ap length (list_within s numbers h) ∙ length-take-le s.length (drop s.at numbers) (omega (arith, length-drop s.at numbers))

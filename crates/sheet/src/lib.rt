@@ -153,8 +153,8 @@ pub fn part<'a>(span: Span, numbers: &'a [u64]) -> &'a [u64]
     ensures { result.now ≡ list_in span numbers.now }
 {
     let Span { at, length } = span;
-    let Some(end) = at.checked_add(length) else {
+    if numbers.len() < at || numbers.len() - at < length {
         return &[];
-    };
-    numbers.get(at..end).unwrap_or(&[])
+    }
+    &numbers[at..at + length]
 }

@@ -162,6 +162,10 @@ payment_last x j k h = rw (le-ltb k x.names h)
 -- ---- no list but the attachments counts
 
 module _ (pool : Pool) (attachments starts hazards discounts accruals elapsed : List ℕ) where
+  pub loss_bare : loss_of (bare pool attachments) ≡ loss_of (terms_of pool attachments starts hazards discounts accruals elapsed)
+  unfolding loss_of pool_loss_of
+  loss_bare = refl
+
   pub outstanding_bare : outstanding_of (bare pool attachments) ≡ outstanding_of (terms_of pool attachments starts hazards discounts accruals elapsed)
   unfolding outstanding_of pool_loss_of pool_recovery_of
   outstanding_bare = refl

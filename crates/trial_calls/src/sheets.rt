@@ -11,7 +11,8 @@ use trial_lent::{lengths, sheet_lists, spans};
 
 // A sheet and its numbers, the register and the rows.
 pub fn sheet(rt: &impl Print, trial: Trial) -> io::Result<()> {
-    let numbers = sheet_lists::all(trial);
+    let mut numbers = [0; sheet_lists::NUMBERS];
+    sheet_lists::all(&mut numbers, trial);
     let register = registers::register(trial.get(Place::Byte));
     let mut defaults = default_row(trial);
     let mut premiums = premium_row(trial);

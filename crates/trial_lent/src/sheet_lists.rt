@@ -96,12 +96,11 @@ fn elapsed(numbers: &mut [u64; NUMBERS], trial: Trial) {
     }
 }
 
-// All of them. What is not written is 0.
-pub fn all(trial: Trial) -> [u64; NUMBERS] {
-    let mut numbers = [0; NUMBERS];
-    points(&mut numbers, trial);
-    starts(&mut numbers, trial);
-    hazards(&mut numbers, trial);
+// All of them, among zeros. They are written where they are lent from, since the list is long.
+pub fn all(numbers: &mut [u64; NUMBERS], trial: Trial) {
+    points(numbers, trial);
+    starts(numbers, trial);
+    hazards(numbers, trial);
     let discounts = trial.get(Place::OtherDiscounts);
     list(
         &mut numbers[DISCOUNTS..ACCRUALS],
@@ -109,13 +108,12 @@ pub fn all(trial: Trial) -> [u64; NUMBERS] {
         discounts,
         discounts,
     );
-    accruals(&mut numbers, trial);
-    elapsed(&mut numbers, trial);
+    accruals(numbers, trial);
+    elapsed(numbers, trial);
     list(
         &mut numbers[COUPONS..STARTS],
         trial.get(Place::Coupon),
         trial.get(Place::ThirdCoupon),
         trial.get(Place::OtherCoupons),
     );
-    numbers
 }

@@ -27,10 +27,8 @@ execute-executed-requires c =
 
 pub returns-in-Err : goal.returns-in-Err
 returns-in-Err c =
-    let line = c.put_deck.ensures in
     let printed =
-    finished_last _ _ _ _ _ _ _ _ c.loop-progress-test.true c.requires.deck_in_bounds c.in-Err.ensures.executes c.from.ensures line.writes line.short
-    c.loop-progress.invariant.0 in
+    finished_last _ _ _ _ _ _ _ _ c.loop-progress-test.true c.requires.deck_in_bounds c.in-Err.ensures.executes c.loop-progress.invariant.0 in
     record { writes = printed.0; within = printed.1; leaves = c.in-Err.ensures.stays ∙ printed.2 }
 
 pub loop-progress-smaller : goal.loop-progress-smaller

@@ -1,12 +1,20 @@
 -- The numbers of the span, or none where it ends past them.
-use Rattle.std.proofs.Common.{rules, ◌<◌, ◌^◌, length, arith, sym}
-use Rattle.sheet.proofs.Spans.{list_past, list_got}
+use Rattle.std.proofs.Common.{sym, ◌∙◌, arith}
+use Rattle.sheet.proofs.Parts.{part_whole}
+use Rattle.sheet.proofs.Spans.{list_within, list_past}
+use Rattle.sheet.proofs.part.Goals.{then-numbers-at-via-then-numbers-at, then-numbers-at-via-else-numbers-at+then-numbers-at-2}
 use Rattle.sheet.proofs.part.Goals as goal
 
-pub returns-in_default : goal.returns-in_default
-returns-in_default c =
-    let fits : length c.args.numbers.now < 2 ^ 64 = search rules in
-    sym (list_past c.args.span c.args.numbers.now (omega (arith, fits, c.in_default.ensures)))
+pub returns-then-numbers-at : goal.returns-then-numbers-at
+returns-then-numbers-at c =
+    let a = c.args in
+    sym (list_past a.span a.numbers.now (elim c.then-numbers-at.branch [
+      | then-numbers-at-via-then-numbers-at w ↦ omega (arith, w.if-numbers-at.true)
+      | then-numbers-at-via-else-numbers-at+then-numbers-at-2 w ↦ omega (arith, w.if-numbers-at.false, w.if-numbers-at-2.true)
+    ]))
 
 pub returns : goal.returns
-returns c = list_got c.args.span c.args.numbers.now c.in-Some.end _ _ _ c.get.ensures.lookup c.in-Some.ensures.1 (search rules) c.unwrap_or.ensures
+returns c =
+    let a = c.args in
+    part_whole a.numbers.now a.span.at a.span.length
+    ∙ sym (list_within a.span a.numbers.now (omega (arith, c.if-numbers-at.false, c.if-numbers-at-2.false)))

@@ -1,0 +1,13 @@
+-- The fold tests each element.
+use Rattle.std.proofs.Common.{◌∙◌, false, ◌||◌, rules, tests, ltb}
+use Rattle.std.proofs.lemmas.Iterator.{YieldsList-from_slice}
+use Rattle.std.proofs.lemmas.Iterator.Consumers.{fold_from_yields_List}
+use Rattle.lists.proofs.Loops.{any_folded}
+use Rattle.lists.proofs.block_above.Goals as goal
+
+pub returns : goal.returns
+returns c =
+    let a = c.args in
+    fold_from_yields_List _ (λ found y. found || ltb a.most y) false _ c.fold.ensures.ran (YieldsList-from_slice a.block.now cc)
+    (λ found y after f k. search (rules, tests))
+    ∙ any_folded (ltb a.most) a.block.now
