@@ -62,11 +62,14 @@ const HANDS_ON: [(&str, &[&str]); 11] = [
         ],
     ),
     ("execution/src/lib.rt: obey", &["orders::act(register)"]),
-    ("execution/src/lib.rt: perform", &["obey(register)"]),
-    ("execution/src/lib.rt: execute", &["perform(register)"]),
+    ("execution/src/lib.rt: execute", &["obey(register)"]),
+    (
+        "execution/src/lib.rt: execute_and_print",
+        &["execute(register)"],
+    ),
     (
         "interpreter/src/lib.rt: interpret",
-        &["execution::execute(register)"],
+        &["execution::execute_and_print(register)"],
     ),
     (
         "deck/src/lib.rt: run_on",
@@ -83,6 +86,9 @@ const OWNS: (&str, &str) = ("deck/src/lib.rt: run", "run_on(&mut register)");
 
 /// The trials are a caller, and make up registers and steps left of their own.
 const TRIALS: [&str; 4] = ["trial/", "trial_calls/", "trial_turns/", "trials/"];
+
+/// So are the tests of a crate, which stand in no build of it.
+const TESTS: &str = "execution/src/tests.rt";
 
 // ---- the source, as words
 
@@ -233,7 +239,7 @@ fn functions() -> Vec<Function> {
     let mut found = Vec::new();
     for path in sources() {
         let file = path.strip_prefix(crates()).unwrap().to_str().unwrap();
-        if TRIALS.iter().any(|folder| file.starts_with(folder)) {
+        if TRIALS.iter().any(|folder| file.starts_with(folder)) || file == TESTS {
             continue;
         }
         let text = fs::read_to_string(&path).unwrap();
@@ -741,6 +747,13 @@ fn other_functions_hand_the_register_on() {
         assert_eq!(owner.handed(), [OWNS.1], "{}", owner.place);
     }
     assert_eq!(owners.len(), 1);
+}
+
+#[test]
+fn the_tests_of_a_crate_stand_in_no_build() {
+    let root = fs::read_to_string(crates().join("execution/src/lib.rt")).unwrap();
+    assert_eq!(root.matches("mod tests").count(), 1);
+    assert!(root.contains("\n#[cfg(test)]\nmod tests;\n"));
 }
 
 #[test]

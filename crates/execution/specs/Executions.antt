@@ -34,8 +34,8 @@ pub record Ends (effect : Effect) (from : Progress) (before after : List ℕ) (s
   pub unwritten : after ≡ before
 
 -- The one or the other. Where the run goes on, `machine` tells what the code's figures and arrays then stand for.
-abbrev pub Performance : Effect → Progress → List ℕ → List ℕ → Result Progress Stop → (Progress → Machine) → Type 0
-Performance effect from before after r machine =
+abbrev pub Execution : Effect → Progress → List ℕ → List ℕ → Result Progress Stop → (Progress → Machine) → Type 0
+Execution effect from before after r machine =
     MatchResult r (λ to. GoesOn effect from before after to (machine to)) (λ s. Ends effect from before after s)
 
 -- The run has ended with a refusal, whose line was written behind what was printed.
@@ -45,6 +45,6 @@ pub record Ended (effect : Effect) (from : Progress) (before after : List ℕ) (
   pub room : s.end ≤ from.end + 96
 
 -- An effect's text was written behind what was printed, be it that of a refusal or not.
-abbrev pub Execution : Effect → Progress → List ℕ → List ℕ → Result Progress Stopped → (Progress → Machine) → Type 0
-Execution effect from before after r machine =
+abbrev pub PrintedExecution : Effect → Progress → List ℕ → List ℕ → Result Progress Stopped → (Progress → Machine) → Type 0
+PrintedExecution effect from before after r machine =
     MatchResult r (λ to. GoesOn effect from before after to (machine to)) (λ s. Ended effect from before after s)

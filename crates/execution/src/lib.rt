@@ -7,7 +7,7 @@ ghost use Rattle.commands.specs.Commands.{command_at};
 ghost use Rattle.entries.specs.Layouts.{LayoutLimits};
 ghost use Rattle.machine.specs.Machine.{RoomLengths};
 ghost use Rattle.listings.specs.Effects.{entry_effect, order_effect, effect_of};
-ghost use Rattle.execution.specs.Executions.{start_progress, machine_at, GoesOn, Performance, Execution};
+ghost use Rattle.execution.specs.Executions.{start_progress, machine_at, GoesOn, Execution, PrintedExecution};
 
 use commands::{Command, Entry, Order, Stop};
 use entries::Layout;
@@ -47,7 +47,7 @@ fn enter(entry: Entry, from: Progress, numbers: &mut [u64]) -> Result<Progress, 
     requires layout_limits { LayoutLimits from.layout numbers.old }
     ensures limits { MatchResult result (λ to. LayoutLimits to.layout numbers.new) (λ _. LayoutLimits from.layout numbers.new) }
     ensures executes { (register defaults premiums row out : List ℕ) →
-        Performance (entry_effect entry from.at (machine_at from numbers.old register defaults premiums row))
+        Execution (entry_effect entry from.at (machine_at from numbers.old register defaults premiums row))
         from out out result (λ to. machine_at to numbers.new register defaults premiums row) }
 {
     if !entries::has_room(entry, from.layout) {
@@ -101,8 +101,8 @@ fn obey(
     }
 }
 
-// The command that stands at the next offset: 18, 19 and 20 in that order, else the command. A refusal's line is still to be written.
-fn perform(
+// Executes the command that stands at the next offset: 18, 19 and 20 in that order, else the command. A refusal's line is still to be written.
+pub fn execute(
     deck: &[u8],
     from: Progress,
     numbers: &mut [u64],
@@ -118,7 +118,7 @@ fn perform(
     requires end_in_bounds { from.end + 96 ≤ length out.old }
     ensures limits { MatchResult result (λ to. LayoutLimits to.layout numbers.new) (λ _. LayoutLimits from.layout numbers.new) }
     ensures lengths { RoomLengths defaults.new premiums.new row.new }
-    ensures executes { Performance
+    ensures executes { Execution
         (effect_of (command_at deck.now from.at) from.at
         (machine_at from numbers.old register.old defaults.old premiums.old row.old))
         from out.old out.new result
@@ -133,8 +133,8 @@ fn perform(
     }
 }
 
-// Executes the command that stands at the next offset. A refusal ends the run, and its line is the last.
-pub fn execute(
+// The same, with the line of a refusal, which is the last.
+pub fn execute_and_print(
     deck: &[u8],
     from: Progress,
     numbers: &mut [u64],
@@ -150,14 +150,14 @@ pub fn execute(
     requires end_in_bounds { from.end + 96 ≤ length out.old }
     ensures limits { MatchResult result (λ to. LayoutLimits to.layout numbers.new) (λ _. LayoutLimits from.layout numbers.new) }
     ensures lengths { RoomLengths defaults.new premiums.new row.new }
-    ensures executes { Execution
+    ensures executes { PrintedExecution
         (effect_of (command_at deck.now from.at) from.at
         (machine_at from numbers.old register.old defaults.old premiums.old row.old))
         from out.old out.new result
         (λ to. machine_at to numbers.new register.new defaults.new premiums.new row.new) }
     ensures stays { OnErr result (register.new ≡ register.old) }
 {
-    match perform(deck, from, numbers, register, defaults, premiums, row, out) {
+    match execute(deck, from, numbers, register, defaults, premiums, row, out) {
         Ok(to) => Ok(to),
         Err(stop) => Err(Stopped {
             stop,
@@ -165,3 +165,6 @@ pub fn execute(
         }),
     }
 }
+
+#[cfg(test)]
+mod tests;

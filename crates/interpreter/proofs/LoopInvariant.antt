@@ -1,5 +1,5 @@
 -- The commands of a deck, one after the other, on plain values.
-use Rattle.std.proofs.Common.{ℕ, zero, suc, ◌+◌, ◌*◌, ◌≤◌, ◌<◌, ◌≡◌, sym, ap, ◌∙◌, subst, false, List, [], ◌∷◌, ◌++◌, append_assoc}
+use Rattle.std.proofs.Common.{ℕ, zero, suc, ◌+◌, ◌*◌, ◌≤◌, ◌<◌, ◌≡◌, sym, ap, ◌∙◌, subst, subst₂, false, List, [], ◌∷◌, ◌++◌, append_assoc}
 use Rattle.std.proofs.Common.{append-nil, arith, length, get_or, take, drop-cons}
 use Rattle.lines.specs.Text.{Wrote}
 use Rattle.lines.proofs.Laws.{wrote_both, wrote_text, wrote_none, wrote_long}
@@ -15,7 +15,8 @@ use Rattle.machine.specs.Machine.{Machine, machine_of}
 use Rattle.execution.specs.declared.Progress.{Progress}
 use Rattle.listings.specs.Effects.{effect_of}
 use Rattle.execution.specs.declared.Stopped.{Stopped}
-use Rattle.execution.specs.Executions.{start_progress, machine_at, GoesOn, Ended}
+use Rattle.execution.specs.Executions.{start_progress, machine_at, GoesOn, Ends, Ended}
+use Rattle.commands.specs.declared.Stop.{Stop}
 use Rattle.commands.specs.Kinds.{refusal_of}
 use Rattle.render.specs.Lines.{deck_line}
 use Rattle.listings.specs.ListingFrom.{listing_from}
@@ -107,18 +108,36 @@ module _ (all left deck before out after : List ℕ) (p : Progress) (m : Machine
 
   -- one that ends the run: its line comes last
   module _ {s : Stopped} (g : Ended (effect_of (command_at deck p.at) p.at m) p out after s) where
-    step_last : (n : ℕ) → length deck ≤ p.at + n → (text : List ℕ) → Wrote before 0 text out p.end → all ≡ text ++ listing_from n deck p.at m →
+    step_stopped : (n : ℕ) → length deck ≤ p.at + n → (text : List ℕ) → Wrote before 0 text out p.end → all ≡ text ++ listing_from n deck p.at m →
         left ≡ register_from n deck p.at m → p.end ≤ 32 * p.at → Finished all left before after s.end m.register
-    step_last zero en text wr rest kept room = absurd (omega arith)
-    step_last (suc n) en text wr rest kept room = (
+    step_stopped zero en text wr rest kept room = absurd (omega arith)
+    step_stopped (suc n) en text wr rest kept room = (
       wrote_text (sym (rest ∙ ap (λ (l : List ℕ). text ++ l) (last deck p.at m n (deck_line (refusal_of s.stop) p.at) h g.effect_is)))
           (wrote_both wr g.wrote),
       omega (arith, g.room),
       sym (kept ∙ left_last deck p.at m n (deck_line (refusal_of s.stop) p.at) h g.effect_is),
     )
 
-    pub finished_last : Invariant all left deck before out p m → Finished all left before after s.end m.register
-    finished_last i = step_last i.commands i.enough i.text i.wrote i.rest i.kept i.room
+    pub finished_stopped : Invariant all left deck before out p m → Finished all left before after s.end m.register
+    finished_stopped i = step_stopped i.commands i.enough i.text i.wrote i.rest i.kept i.room
+
+-- One whose line is still to be written, and is written behind what was printed.
+module _ (all left deck before out after : List ℕ) (p : Progress) (m : Machine) (h : p.at < length deck)
+    (long : 32 * length deck + 96 ≤ length before) {s : Stop} (g : Ends (effect_of (command_at deck p.at) p.at m) p out after s) {number end : ℕ}
+    {printed : List ℕ} (is : number ≡ refusal_of s) (w : Wrote after p.end (deck_line number p.at) printed end) (short : end ≤ p.end + 30) where
+  line : Wrote out p.end (deck_line (refusal_of s) p.at) printed end
+  line =
+      subst₂ (λ (o : List ℕ) (k : ℕ). Wrote o p.end (deck_line k p.at) printed end) g.unwritten is w
+
+  ended : Ended (effect_of (command_at deck p.at) p.at m) p out printed (record { stop = s; end = end })
+  ended = record { effect_is = g.effect_is; wrote = line; room = omega (arith, short) }
+
+  step_last : (n : ℕ) → length deck ≤ p.at + n → (text : List ℕ) → Wrote before 0 text out p.end → all ≡ text ++ listing_from n deck p.at m →
+      left ≡ register_from n deck p.at m → p.end ≤ 32 * p.at → Finished all left before printed end m.register
+  step_last = step_stopped all left deck before out printed p m h long ended
+
+  pub finished_last : Invariant all left deck before out p m → Finished all left before printed end m.register
+  finished_last i = step_last i.commands i.enough i.text i.wrote i.rest i.kept i.room
 
 pub finished_all : {all left deck before out : List ℕ} {p : Progress} {m : Machine} → Invariant all left deck before out p m → length deck ≤ p.at →
     Finished all left before out p.end m.register

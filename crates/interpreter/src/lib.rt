@@ -35,7 +35,7 @@ pub fn interpret(
 {
     let mut progress = execution::start();
     while progress.at < deck.len() {
-        let executed = execution::execute(
+        let executed = execution::execute_and_print(
             deck, progress, numbers, register, defaults, premiums, row, out,
         );
         match executed {

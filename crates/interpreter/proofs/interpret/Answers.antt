@@ -1,6 +1,6 @@
 -- `interpreter::interpret` meets its contract. The loop's invariant: all that is to be printed is what stands in out and what the rest
 use Rattle.std.proofs.Common.{refl, ◌∙◌, arith}
-use Rattle.interpreter.proofs.LoopInvariant.{start_limits, holds_at_start, line_fits, holds_on, finished_last, finished_all}
+use Rattle.interpreter.proofs.LoopInvariant.{start_limits, holds_at_start, line_fits, holds_on, finished_stopped, finished_all}
 use Rattle.interpreter.proofs.interpret.Goals as goal
 
 pub start-progress-requires : goal.start-progress-requires
@@ -15,8 +15,8 @@ loop-progress-init c = (
   refl,
 )
 
-pub execute-executed-requires : goal.execute-executed-requires
-execute-executed-requires c =
+pub execute_and_print-executed-requires : goal.execute_and_print-executed-requires
+execute_and_print-executed-requires c =
     let i = c.loop-progress.invariant in
     record {
       at_in_bounds = c.loop-progress-test.true;
@@ -28,7 +28,7 @@ execute-executed-requires c =
 pub returns-in-Err : goal.returns-in-Err
 returns-in-Err c =
     let printed =
-    finished_last _ _ _ _ _ _ _ _ c.loop-progress-test.true c.requires.deck_in_bounds c.in-Err.ensures.executes c.loop-progress.invariant.0 in
+    finished_stopped _ _ _ _ _ _ _ _ c.loop-progress-test.true c.requires.deck_in_bounds c.in-Err.ensures.executes c.loop-progress.invariant.0 in
     record { writes = printed.0; within = printed.1; leaves = c.in-Err.ensures.stays ∙ printed.2 }
 
 pub loop-progress-smaller : goal.loop-progress-smaller
@@ -39,7 +39,7 @@ loop-progress-preserved c = (
   holds_on _ _ _ _ _ _ _ _ c.loop-progress-test.true c.requires.deck_in_bounds _ c.in-Ok.next c.in-Ok.ensures.executes c.loop-progress.invariant.0,
   c.in-Ok.ensures.limits,
   c.in-Ok.ensures.lengths,
-  c.execute-executed.auto.register ∙ c.loop-progress.invariant.3,
+  c.execute_and_print-executed.auto.register ∙ c.loop-progress.invariant.3,
 )
 
 pub returns : goal.returns

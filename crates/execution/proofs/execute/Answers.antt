@@ -1,10 +1,10 @@
--- `execution::perform` meets its contract: each way out is what was read there, and what the function of its command ensures.
+-- `execution::execute` meets its contract: each way out is what was read there, and what the function of its command ensures.
 use Rattle.std.proofs.Common.{refl, sym, ap, ◌∙◌, Ok}
 use Rattle.std.proofs.lemmas.Result.{err_from_is_err_and}
 use Rattle.machine.specs.Machine.{Machine}
 use Rattle.execution.specs.Executions.{machine_at}
 use Rattle.listings.proofs.Laws.{stop_effect, enter_effect, act_effect}
-use Rattle.execution.proofs.perform.Goals as goal
+use Rattle.execution.proofs.execute.Goals as goal
 
 pub returns-in_err-entry-clause-executes : goal.returns-in_err-entry-clause-executes
 returns-in_err-entry-clause-executes c =
